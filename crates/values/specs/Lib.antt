@@ -1,0 +1,4 @@
+pub mod Writing
+pub mod Count
+pub mod Answer
+pub mod Examples

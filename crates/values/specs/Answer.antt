@@ -1,9 +1,11 @@
 -- An answer in three bytes: its case, then a number, highest byte first. Assumes nothing.
 use Prim.Native.Nat.{ℕ, _+_, _*_, _/_, _%_, _≤_}
 use mathlib.Core.Bool.{Bool, true, false, cond}
-use mathlib.Core.List.{List, [], _∷_}
+use mathlib.Core.List.{List, [], _∷_, _++_}
+use lib.Chars.{codes}
 use lib.Dec.{eqb, leb, T, leb→le}
 use Rattle.std.specs.Options.{mapped}
+use Rattle.std.specs.Written.{decimal}
 use Rattle.std.specs.declared.option.Option.{Option}
 use Rattle.std.specs.declared.option.Option.the-variants.{Some, None}
 use Rattle.values.specs.declared.box_number.BoxNumber.{BoxNumber}
@@ -45,3 +47,13 @@ answerReads (case ∷ []) = None
 answerReads (case ∷ high ∷ []) = None
 answerReads (case ∷ high ∷ low ∷ []) = answerOf case (high * 256 + low)
 answerReads (case ∷ high ∷ low ∷ d ∷ more) = None
+
+abbrev pub caseName : Answer → List ℕ
+caseName Blank = codes "blank"
+caseName (Ticked box) = codes "ticked"
+caseName (Written n) = codes "written"
+caseName Refused = codes "refused"
+
+-- the case by its name, then the number
+abbrev pub answerText : Answer → List ℕ
+answerText a = caseName a ++ (codes " " ++ decimal (numberOf a))

@@ -1,11 +1,13 @@
+ghost use Rattle.std.specs.declared.option.Option.the-variants.{Some};
 ghost use mathlib.Core.Path.{_≡_};
-ghost use Rattle.values.specs.Answer.{caseOf, numberOf, boxNumbered, answerBytes, answerReads};
+ghost use Rattle.values.specs.Answer.{caseOf, numberOf, boxNumbered, answerBytes, answerReads, answerText};
 use crate::box_number::BoxNumber;
 use crate::box_number::BoxNumberDebug;
 use crate::box_number::BoxNumberPartialEq;
 use crate::buffer::TooShort;
 use crate::buffer::put_front;
 use crate::kind::Value;
+use std::fmt;
 
 // A coded answer on a form.
 #[derive(Clone, Copy, PartialEq, Eq, Debug)]
@@ -107,6 +109,21 @@ pub impl Value for Answer as AnswerValue {
                 None
             },
             _ => None,
+        }
+    }
+}
+
+// The case by its name, then the number beside it.
+pub impl fmt::Display for Answer as AnswerDisplay {
+    ghost shown = { λ a. Some (answerText a) };
+
+    fn fmt<W: fmt::Write>(&self, f: &mut fmt::Formatter<W>) -> fmt::Result {
+        let number = self.number();
+        match self {
+            Answer::Blank => write!(f, "blank {number}"),
+            Answer::Ticked(_) => write!(f, "ticked {number}"),
+            Answer::Written(_) => write!(f, "written {number}"),
+            Answer::Refused => write!(f, "refused {number}"),
         }
     }
 }

@@ -1,7 +1,10 @@
+ghost use Rattle.std.specs.Written.{decimal};
+ghost use Rattle.std.specs.declared.option.Option.the-variants.{Some};
 ghost use Rattle.values.specs.Count.{countBytes, countReads};
 use crate::buffer::TooShort;
 use crate::buffer::put_front;
 use crate::kind::Value;
+use std::fmt;
 
 // A count of forms or of people: 0 to 4,294,967,295.
 #[derive(Clone, Copy, PartialEq, Eq, Debug)]
@@ -31,5 +34,14 @@ pub impl Value for Count as CountValue {
         Some(Count {
             number: u32::from_be_bytes([*a, *b, *c, *d]),
         })
+    }
+}
+
+pub impl fmt::Display for Count as CountDisplay {
+    ghost shown = { λ c. Some (decimal (c .number)) };
+
+    fn fmt<W: fmt::Write>(&self, f: &mut fmt::Formatter<W>) -> fmt::Result {
+        let number = self.number;
+        write!(f, "{number}")
     }
 }

@@ -1,0 +1,85 @@
+ghost use mathlib.Core.Path.{_≡_};
+ghost use Prim.Native.Nat.{_+_};
+ghost use lib.ListN.{drop};
+ghost use Rattle.script.specs.Fields.{Opens, fieldFound, Front, after};
+use crate::fault::Fault;
+use crate::fault::FaultKind;
+
+// One field of a script: its tag, its body and the byte where it begins.
+#[derive(Clone, Copy)]
+pub struct Field<'a> {
+    pub tag: u8,
+    pub body: &'a [u8],
+    pub at: usize,
+}
+
+// A script that is being read, and the byte where its next field begins.
+#[derive(Clone, Copy)]
+pub struct Reader<'a> {
+    pub(crate) script: &'a [u8],
+    pub(crate) at: usize,
+}
+
+const LONGEST: usize = 65536;
+
+// The bytes of a header: a tag and a length.
+const HEADER: usize = 3;
+
+// The field at the front of what is left of a script from the byte `at` on, or nothing where nothing is left.
+fn front<'a>(left: &'a [u8], at: usize) -> Result<Option<Field<'a>>, Fault>
+    ensures { λ r. ⌜ Front (now (left .entry)) at (fieldFound r) ⌝ }
+{
+    match left {
+        [] => Ok(None),
+        [tag, high, low, more @ ..] => {
+            let size = u16::from_be_bytes([*high, *low]) as usize;
+            if more.len() < size {
+                return Err(Fault { kind: FaultKind::BodyCut, at });
+            }
+            Ok(Some(Field {
+                tag: *tag,
+                body: &more[0..size],
+                at,
+            }))
+        }
+        _ => Err(Fault { kind: FaultKind::HeaderCut, at }),
+    }
+}
+
+impl<'a> Reader<'a> {
+    // A reader at the first byte of a script; a script too long is refused.
+    pub fn new(script: &'a [u8]) -> Result<Reader<'a>, Fault>
+        ensures { λ r. ⌜ Opens (now (script .entry)) r ⌝ }
+    {
+        if script.len() > LONGEST {
+            return Err(Fault { kind: FaultKind::TooLong, at: 0 });
+        }
+        Ok(Reader { script, at: 0 })
+    }
+
+    // The byte where the reader stands.
+    pub fn at(&self) -> usize
+        ensures { λ r. ⌜ r ≡ now (self .entry) .at ⌝ }
+    {
+        self.at
+    }
+
+    // The next field, or nothing at the end of the script; a fault leaves the reader where it stood.
+    pub fn next_field(&mut self) -> Result<Option<Field<'a>>, Fault>
+        ensures found { λ r. ⌜ Front (drop (now (self .entry) .at) (now (now (self .entry) .script))) (now (self .entry) .at) (fieldFound r) ⌝ }
+        ensures script { λ _. ⌜ now (now (self .exit) .script) ≡ now (now (self .entry) .script) ⌝ }
+        ensures at { λ r. ⌜ now (self .exit) .at ≡ now (self .entry) .at + after (fieldFound r) ⌝ }
+    {
+        let script = self.script;
+        if self.at >= script.len() {
+            return Ok(None);
+        }
+        match front(&script[self.at..], self.at)? {
+            Some(field) => {
+                self.at += HEADER + field.body.len();
+                Ok(Some(field))
+            }
+            None => Ok(None),
+        }
+    }
+}

@@ -1,0 +1,4 @@
+pub mod Fields
+pub mod Parts
+pub mod Buffers
+pub mod Trips

@@ -16,7 +16,12 @@ use std::alloc::AllocError;
 use std::alloc::Global;
 
 // The line of a record: its number, the byte where its field begins and what it means.
-pub fn record_line(heap: Global, number: u32, at: usize, record: Record<ListedValue>) -> Result<String, AllocError>
+pub fn record_line(
+    heap: Global,
+    number: u32,
+    at: usize,
+    record: Record<ListedValue>,
+) -> Result<String, AllocError>
     ensures { λ r. ⌜ made r (λ line. string-bytes line ≡ recordLine number at «record») ⌝ }
 {
     let meaning = Meaning { record };
@@ -38,11 +43,30 @@ fn in_words<V: Listed>(decoded: Record<V>) -> Record<ListedValue>
     ensures { λ r. ⌜ r ≡ recordAs said decoded ⌝ }
 {
     match decoded {
-        Record::Prepare { stations, pages, room } => Record::Prepare { stations, pages, room },
-        Record::Set { page, value } => Record::Set { page, value: value.listed() },
+        Record::Prepare {
+            stations,
+            pages,
+            room,
+        } => Record::Prepare {
+            stations,
+            pages,
+            room,
+        },
+        Record::Set { page, value } => Record::Set {
+            page,
+            value: value.listed(),
+        },
         Record::Start => Record::Start,
         Record::Load { station, page } => Record::Load { station, page },
-        Record::Store { station, page, value } => Record::Store { station, page, value: value.listed() },
+        Record::Store {
+            station,
+            page,
+            value,
+        } => Record::Store {
+            station,
+            page,
+            value: value.listed(),
+        },
         Record::Fire { kind, station } => Record::Fire { kind, station },
         Record::Close => Record::Close,
         Record::Readout { page } => Record::Readout { page },

@@ -8,11 +8,11 @@ use script::record::Record;
 use std::fmt;
 use values::answer::Answer;
 use values::answer::AnswerDisplay;
+use values::answer::AnswerValue;
 use values::count::Count;
 use values::count::CountDisplay;
-use values::kind::Value;
-use values::answer::AnswerValue;
 use values::count::CountValue;
+use values::kind::Value;
 
 // A value of one of the kinds that can be listed.
 #[derive(Clone, Copy)]
@@ -71,7 +71,10 @@ pub impl fmt::Display for FiringWords as FiringWordsDisplay {
         match self.kind {
             FiringKind::Work => write!(f, "station {station} works its oldest instruction"),
             FiringKind::Receive => write!(f, "station {station} receives from its down lane"),
-            FiringKind::Collect => write!(f, "the home reads from the reply lane of station {station}"),
+            FiringKind::Collect => write!(
+                f,
+                "the home reads from the reply lane of station {station}"
+            ),
             FiringKind::Serve => write!(f, "the home takes the request of station {station}"),
         }
     }
@@ -88,11 +91,19 @@ pub impl fmt::Display for Meaning as MeaningDisplay {
 
     fn fmt<W: fmt::Write>(&self, f: &mut fmt::Formatter<W>) -> fmt::Result {
         match self.record {
-            Record::Prepare { stations, pages, room } => write!(f, "prepare stations {stations}, pages {pages}, room {room}"),
+            Record::Prepare {
+                stations,
+                pages,
+                room,
+            } => write!(f, "prepare stations {stations}, pages {pages}, room {room}"),
             Record::Set { page, value } => write!(f, "set page {page} to {value}"),
             Record::Start => write!(f, "start"),
             Record::Load { station, page } => write!(f, "station {station} is to load page {page}"),
-            Record::Store { station, page, value } => write!(f, "station {station} is to store {value} to page {page}"),
+            Record::Store {
+                station,
+                page,
+                value,
+            } => write!(f, "station {station} is to store {value} to page {page}"),
             Record::Fire { kind, station } => {
                 let firing = FiringWords { kind, station };
                 write!(f, "fire: {firing}")

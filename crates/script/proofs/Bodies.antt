@@ -5,7 +5,7 @@ use mathlib.Core.Bool.{Bool, true}
 use mathlib.Core.List.{List, [], _∷_, _++_}
 use native.Mathlib.Omega.{arith}
 use lib.ListN.{length, getD, take, drop, length-drop}
-use lib.Seq.{drop-cons}
+use Rattle.std.proofs.shelf.Lists.{drop-more}
 use Rattle.std.specs.declared.result.Result.the-variants.{Ok, Err}
 use Rattle.messages.specs.Bytes.{word}
 use Rattle.script.specs.declared.fault.Fault.{Fault}
@@ -14,7 +14,7 @@ use Rattle.script.specs.declared.fault.FaultKind.the-variants.{TooLong, Header
 use Rattle.script.specs.declared.record.Record.{Record}
 use Rattle.script.specs.declared.record.Record.the-variants.{Prepare, Set, Start, Load, Store, Fire, Close, Readout}
 use Rattle.script.specs.Records.{Piece, Holds, bodySizes, Fails, Says, ValueFails, ValueSays}
-use Rattle.script.proofs.Fronts.{empty}
+use Rattle.script.proofs.Fronts.{none-left}
 
 word-of : (p high low : ℕ) → p ≡ high * 256 + low → low < 256 → word p ≡ high ∷ low ∷ []
 word-of p high low e small =
@@ -23,38 +23,32 @@ word-of p high low e small =
     cc
 
 two : (s : List ℕ) → 2 ≤ length s → s ≡ getD s 0 0 ∷ getD s 1 0 ∷ drop 2 s
-two [] h = absurd (omega arith)
-two (x ∷ []) h = absurd (omega arith)
-two (x ∷ y ∷ s) h = refl
+two s h = cc (drop-more s 0 0 (omega arith), drop-more s 1 0 (omega arith))
 
 three : (s : List ℕ) → 3 ≤ length s → s ≡ getD s 0 0 ∷ getD s 1 0 ∷ getD s 2 0 ∷ drop 3 s
-three [] h = absurd (omega arith)
-three (x ∷ s) h = ap (λ (l : List ℕ). x ∷ l) (two s (omega arith))
-
-past : (s : List ℕ) (n : ℕ) → length s ≡ n → drop n s ≡ []
-past s n e = empty _ (simp length-drop (omega arith))
+three s h = cc (drop-more s 0 0 (omega arith), drop-more s 1 0 (omega arith), drop-more s 2 0 (omega arith))
 
 -- a page first, then the rest
 pub page-then : (s rest : List ℕ) (p : ℕ) → 2 ≤ length s → p ≡ getD s 0 0 * 256 + getD s 1 0 → getD s 1 0 < 256 → rest ≡ drop 2 s → s ≡ word p ++ rest
 page-then s rest p h e small r = let a = two s h in let b = word-of p _ _ e small in cc
 
 pub page-only : (s : List ℕ) (p : ℕ) → length s ≡ 2 → p ≡ getD s 0 0 * 256 + getD s 1 0 → getD s 1 0 < 256 → s ≡ word p
-page-only s p h e small = page-then s [] p (omega arith) e small (sym (past s 2 h))
+page-only s p h e small = page-then s [] p (omega arith) e small (sym (none-left s 2 (omega arith)))
 
 -- a station, a page, then the rest
 pub station-page-then : (s rest : List ℕ) (p : ℕ) → 3 ≤ length s → p ≡ getD s 1 0 * 256 + getD s 2 0 → getD s 2 0 < 256 → rest ≡ drop 3 s → s ≡ getD s 0 0 ∷ (word p ++ rest)
 station-page-then s rest p h e small r = let a = three s h in let b = word-of p _ _ e small in cc
 
 pub station-page : (s : List ℕ) (p : ℕ) → length s ≡ 3 → p ≡ getD s 1 0 * 256 + getD s 2 0 → getD s 2 0 < 256 → s ≡ getD s 0 0 ∷ word p
-station-page s p h e small = station-page-then s [] p (omega arith) e small (sym (past s 3 h))
+station-page s p h e small = station-page-then s [] p (omega arith) e small (sym (none-left s 3 (omega arith)))
 
 pub sizes : (s : List ℕ) (p : ℕ) → length s ≡ 4 → p ≡ getD s 1 0 * 256 + getD s 2 0 → getD s 2 0 < 256 → s ≡ getD s 0 0 ∷ (word p ++ (getD s 3 0 ∷ []))
 sizes s p h e small =
     let last : 3 < length s = omega arith in
-    station-page-then s (getD s 3 0 ∷ []) p (omega arith) e small (sym (drop-cons s 3 0 last ∙ ap (λ (l : List ℕ). getD s 3 0 ∷ l) (past s 4 h)))
+    station-page-then s (getD s 3 0 ∷ []) p (omega arith) e small (sym (drop-more s 3 0 last ∙ ap (λ (l : List ℕ). getD s 3 0 ∷ l) (none-left s 4 (omega arith))))
 
 pub pair : (s : List ℕ) (k : ℕ) → length s ≡ 2 → k ≡ getD s 0 0 → s ≡ k ∷ getD s 1 0 ∷ []
-pair s k h e = let a = two s (omega arith) in let b = past s 2 h in cc
+pair s k h e = let a = two s (omega arith) in let b = none-left s 2 (omega arith) in cc
 
 module _ (width : ℕ) (readable : List ℕ → Bool) where
   broken-by : (tag n : ℕ) (body bytes : List ℕ) (place : ℕ) (kind : FaultKind) → tag ≤ 8 → getD (bodySizes width) (tag - 1) 0 ≡ n + width → n ≤ length body → bytes ≡ drop n body → ((r : Record Piece) → Holds width readable tag body place r → readable (drop n body) ≡ true) → ValueFails width readable bytes kind → Fails width readable tag body place kind

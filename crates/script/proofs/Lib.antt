@@ -1,3 +1,4 @@
 pub mod Fronts
 pub mod Bodies
 pub mod Nexts
+pub mod Readings

@@ -34,7 +34,10 @@ fn front<'a>(left: &'a [u8], at: usize) -> Result<Option<Field<'a>>, Fault>
         [tag, high, low, more @ ..] => {
             let size = u16::from_be_bytes([*high, *low]) as usize;
             if more.len() < size {
-                return Err(Fault { kind: FaultKind::BodyCut, at });
+                return Err(Fault {
+                    kind: FaultKind::BodyCut,
+                    at,
+                });
             }
             Ok(Some(Field {
                 tag: *tag,
@@ -42,7 +45,10 @@ fn front<'a>(left: &'a [u8], at: usize) -> Result<Option<Field<'a>>, Fault>
                 at,
             }))
         }
-        _ => Err(Fault { kind: FaultKind::HeaderCut, at }),
+        _ => Err(Fault {
+            kind: FaultKind::HeaderCut,
+            at,
+        }),
     }
 }
 
@@ -52,16 +58,12 @@ impl<'a> Reader<'a> {
         ensures { λ r. ⌜ Opens (now (script .entry)) r ⌝ }
     {
         if script.len() > LONGEST {
-            return Err(Fault { kind: FaultKind::TooLong, at: 0 });
+            return Err(Fault {
+                kind: FaultKind::TooLong,
+                at: 0,
+            });
         }
         Ok(Reader { script, at: 0 })
-    }
-
-    // The byte where the reader stands.
-    pub fn at(&self) -> usize
-        ensures { λ r. ⌜ r ≡ now (self .entry) .at ⌝ }
-    {
-        self.at
     }
 
     // The next field, or nothing at the end of the script; a fault leaves the reader where it stood.

@@ -19,7 +19,10 @@ fn prepare<'a>(body: &'a [u8], at: usize) -> Result<Record<Part<'a>>, Fault>
     ensures { λ r. ⌜ ((width : ℕ) (readable : List ℕ → Bool) → Says width readable 1 (now (body .entry)) at (seen r)) ⌝ }
 {
     let [stations, high, low, room] = body else {
-        return Err(Fault { kind: FaultKind::WrongLength, at });
+        return Err(Fault {
+            kind: FaultKind::WrongLength,
+            at,
+        });
     };
     Ok(Record::Prepare {
         stations: *stations,
@@ -33,10 +36,16 @@ fn value_part<'a, V: Value>(bytes: &'a [u8], at: usize) -> Result<Part<'a>, Faul
     ensures { λ r. ⌜ ValueSays width (λ bytes. isSome (reads bytes)) (now (bytes .entry)) at (pieceSeen r) ⌝ }
 {
     if bytes.len() != V::width() {
-        return Err(Fault { kind: FaultKind::WrongLength, at });
+        return Err(Fault {
+            kind: FaultKind::WrongLength,
+            at,
+        });
     }
     if V::read(bytes).is_none() {
-        return Err(Fault { kind: FaultKind::Unreadable, at });
+        return Err(Fault {
+            kind: FaultKind::Unreadable,
+            at,
+        });
     }
     Ok(Part { bytes, at })
 }
@@ -45,7 +54,10 @@ fn set<'a, V: Value>(body: &'a [u8], at: usize) -> Result<Record<Part<'a>>, Faul
     ensures { λ r. ⌜ Says width (λ bytes. isSome (reads bytes)) 2 (now (body .entry)) at (seen r) ⌝ }
 {
     let [high, low, bytes @ ..] = body else {
-        return Err(Fault { kind: FaultKind::WrongLength, at });
+        return Err(Fault {
+            kind: FaultKind::WrongLength,
+            at,
+        });
     };
     let value = value_part::<V>(bytes, at)?;
     Ok(Record::Set {
@@ -59,7 +71,10 @@ fn start<'a>(body: &'a [u8], at: usize) -> Result<Record<Part<'a>>, Fault>
 {
     match body {
         [] => Ok(Record::Start),
-        _ => Err(Fault { kind: FaultKind::WrongLength, at }),
+        _ => Err(Fault {
+            kind: FaultKind::WrongLength,
+            at,
+        }),
     }
 }
 
@@ -67,7 +82,10 @@ fn load<'a>(body: &'a [u8], at: usize) -> Result<Record<Part<'a>>, Fault>
     ensures { λ r. ⌜ ((width : ℕ) (readable : List ℕ → Bool) → Says width readable 4 (now (body .entry)) at (seen r)) ⌝ }
 {
     let [station, high, low] = body else {
-        return Err(Fault { kind: FaultKind::WrongLength, at });
+        return Err(Fault {
+            kind: FaultKind::WrongLength,
+            at,
+        });
     };
     Ok(Record::Load {
         station: *station,
@@ -79,7 +97,10 @@ fn store<'a, V: Value>(body: &'a [u8], at: usize) -> Result<Record<Part<'a>>, Fa
     ensures { λ r. ⌜ Says width (λ bytes. isSome (reads bytes)) 5 (now (body .entry)) at (seen r) ⌝ }
 {
     let [station, high, low, bytes @ ..] = body else {
-        return Err(Fault { kind: FaultKind::WrongLength, at });
+        return Err(Fault {
+            kind: FaultKind::WrongLength,
+            at,
+        });
     };
     let value = value_part::<V>(bytes, at)?;
     Ok(Record::Store {
@@ -93,11 +114,20 @@ fn fire<'a>(body: &'a [u8], at: usize) -> Result<Record<Part<'a>>, Fault>
     ensures { λ r. ⌜ ((width : ℕ) (readable : List ℕ → Bool) → Says width readable 6 (now (body .entry)) at (seen r)) ⌝ }
 {
     let [number, station] = body else {
-        return Err(Fault { kind: FaultKind::WrongLength, at });
+        return Err(Fault {
+            kind: FaultKind::WrongLength,
+            at,
+        });
     };
     match FiringKind::numbered(*number) {
-        Some(kind) => Ok(Record::Fire { kind, station: *station }),
-        None => Err(Fault { kind: FaultKind::Unreadable, at }),
+        Some(kind) => Ok(Record::Fire {
+            kind,
+            station: *station,
+        }),
+        None => Err(Fault {
+            kind: FaultKind::Unreadable,
+            at,
+        }),
     }
 }
 
@@ -106,7 +136,10 @@ fn close<'a>(body: &'a [u8], at: usize) -> Result<Record<Part<'a>>, Fault>
 {
     match body {
         [] => Ok(Record::Close),
-        _ => Err(Fault { kind: FaultKind::WrongLength, at }),
+        _ => Err(Fault {
+            kind: FaultKind::WrongLength,
+            at,
+        }),
     }
 }
 
@@ -114,7 +147,10 @@ fn readout<'a>(body: &'a [u8], at: usize) -> Result<Record<Part<'a>>, Fault>
     ensures { λ r. ⌜ ((width : ℕ) (readable : List ℕ → Bool) → Says width readable 8 (now (body .entry)) at (seen r)) ⌝ }
 {
     let [high, low] = body else {
-        return Err(Fault { kind: FaultKind::WrongLength, at });
+        return Err(Fault {
+            kind: FaultKind::WrongLength,
+            at,
+        });
     };
     Ok(Record::Readout {
         page: u16::from_be_bytes([*high, *low]),
@@ -154,7 +190,10 @@ fn record_of<'a, V: Value>(field: Field<'a>) -> Result<Record<Part<'a>>, Fault>
         FIRE => fire(body, at),
         CLOSE => close(body, at),
         READOUT => readout(body, at),
-        _ => Err(Fault { kind: FaultKind::UnknownTag, at }),
+        _ => Err(Fault {
+            kind: FaultKind::UnknownTag,
+            at,
+        }),
     }
 }
 
@@ -167,7 +206,10 @@ impl<'a> Reader<'a> {
         while let Some(field) = self.next_field()? {
             if field.tag != PADDING {
                 let record = record_of::<V>(field)?;
-                return Ok(Some(Entry { at: field.at, record }));
+                return Ok(Some(Entry {
+                    at: field.at,
+                    record,
+                }));
             }
         }
         Ok(None)
@@ -178,14 +220,35 @@ impl<'a> Reader<'a> {
 pub fn decode<V: Value>(coded: Record<Part<'_>>) -> Option<Record<V>>
     ensures { λ r. ⌜ r ≡ decoded reads (recordAs pieceOf (coded .entry)) ⌝ }
 {
-    Some(match coded {
-        Record::Prepare { stations, pages, room } => Record::Prepare { stations, pages, room },
-        Record::Set { page, value } => Record::Set { page, value: V::read(value.bytes)? },
-        Record::Start => Record::Start,
-        Record::Load { station, page } => Record::Load { station, page },
-        Record::Store { station, page, value } => Record::Store { station, page, value: V::read(value.bytes)? },
-        Record::Fire { kind, station } => Record::Fire { kind, station },
-        Record::Close => Record::Close,
-        Record::Readout { page } => Record::Readout { page },
-    })
+    Some(
+        match coded {
+            Record::Prepare {
+                stations,
+                pages,
+                room,
+            } => Record::Prepare {
+                stations,
+                pages,
+                room,
+            },
+            Record::Set { page, value } => Record::Set {
+                page,
+                value: V::read(value.bytes)?,
+            },
+            Record::Start => Record::Start,
+            Record::Load { station, page } => Record::Load { station, page },
+            Record::Store {
+                station,
+                page,
+                value,
+            } => Record::Store {
+                station,
+                page,
+                value: V::read(value.bytes)?,
+            },
+            Record::Fire { kind, station } => Record::Fire { kind, station },
+            Record::Close => Record::Close,
+            Record::Readout { page } => Record::Readout { page },
+        },
+    )
 }

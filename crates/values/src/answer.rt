@@ -40,12 +40,6 @@ impl BoxNumber {
             None
         }
     }
-
-    pub fn number(&self) -> u16
-        ensures { λ r. ⌜ r ≡ now (self .entry) .number ⌝ }
-    {
-        self.number
-    }
 }
 
 impl Answer {
@@ -67,12 +61,14 @@ impl Answer {
     {
         match self {
             Answer::Blank => 0,
-            Answer::Ticked(ticked) => ticked.number(),
+            Answer::Ticked(ticked) => ticked.number,
             Answer::Written(number) => *number,
             Answer::Refused => 0,
         }
     }
 }
+
+const WIDTH: usize = 3;
 
 pub impl Value for Answer as AnswerValue {
     ghost width = { 3 };
@@ -82,7 +78,7 @@ pub impl Value for Answer as AnswerValue {
     ghost reads = { answerReads };
 
     fn width() -> usize {
-        3
+        WIDTH
     }
 
     fn write(&self, out: &mut [u8]) -> Result<usize, TooShort> {

@@ -4,7 +4,7 @@ ghost use Prim.Native.Nat.{_≤_};
 // answers name it.
 #[derive(Clone, Copy, PartialEq, Eq, Debug)]
 pub struct BoxNumber {
-    pub(crate) number: u16,
+    pub number: u16,
     ghost first: { 1 ≤ number },
     ghost last: { number ≤ 99 },
 }

@@ -12,6 +12,8 @@ pub struct Count {
     pub number: u32,
 }
 
+const WIDTH: usize = 4;
+
 pub impl Value for Count as CountValue {
     ghost width = { 4 };
 
@@ -20,7 +22,7 @@ pub impl Value for Count as CountValue {
     ghost reads = { countReads };
 
     fn width() -> usize {
-        4
+        WIDTH
     }
 
     fn write(&self, out: &mut [u8]) -> Result<usize, TooShort> {

@@ -42,12 +42,11 @@ loop-found-less g c = let far = ahead g c in omega (arith, c .loop-found .inv .1
 
 pub loop-found-again : need.loop-found-again
 loop-found-again g c =
-    let far = ahead g c in
-    (
+    let far = ahead g c in (
       c .next-record .ensures .script ∙ c .loop-found .inv .0,
       far .1,
       c .loop-found .inv .2,
       omega (arith, c .loop-found .inv .3),
       one-more (g .V·Value .width) (g .V·Value .reads) (g .V·Listed .said) (c .args .script .now) (c .loop-found .reader .script .now) (c .loop-found .inv .0) (c .loop-found .number) (c .loop-found .reader .at) (c .next-record .last .self .at) (outcome (Ok (c .in-Ok-next-record .found))) (c .in-Ok-next-record .ensures tt .next) (string-bytes (c .loop-found .text)) _ (c .loop-found .inv .4) (recordAs pieceOf (c .in-Some .next .record)) (c .in-Some .next .at) (ap (λ o. outcome (Ok o)) (c .in-Some .is)) (c .in-Some-decode .decoded) (sym (c .decode .ensures) ∙ c .in-Some-decode .is)
-      (pushed {was = string-bytes (c .loop-found .text)} (c .as-str-in-loop-found .result .now) refl (c .in-Continue-push-str-2 .was tt) (c .push-str-in-loop-found .ensures .bytes) ∙ ap (λ line. string-bytes (c .loop-found .text) ++ line) (c .as-str-in-loop-found .ensures .value ∙ c .in-Continue-line-2 .ensures tt ∙ ap (recordLine (c .loop-found .number) (c .in-Some .next .at)) (c .in-words .ensures))),
+          (pushed {was = string-bytes (c .loop-found .text)} (c .as-str-in-loop-found .result .now) refl (c .in-Continue-push-str-2 .was tt) (c .push-str-in-loop-found .ensures .bytes) ∙ ap (λ line. string-bytes (c .loop-found .text) ++ line) (c .as-str-in-loop-found .ensures .value ∙ c .in-Continue-line-2 .ensures tt ∙ ap (recordLine (c .loop-found .number) (c .in-Some .next .at)) (c .in-words .ensures))),
     )

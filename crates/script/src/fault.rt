@@ -45,6 +45,13 @@ const FIELD: u8 = 1;
 const RECORD: u8 = 2;
 
 impl FaultKind {
+    // The fault of a field that begins at this byte.
+    pub fn at(self, at: usize) -> Fault
+        ensures { λ r. ⌜ r ≡ record { kind = self; at = at } ⌝ }
+    {
+        Fault { kind: self, at }
+    }
+
     // The layer and the number of the fault.
     pub fn numbers(&self) -> (u8, u8)
         ensures { λ r. ⌜ r ≡ faultNumbers (now (self .entry)) ⌝ }

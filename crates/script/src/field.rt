@@ -34,10 +34,7 @@ fn front<'a>(left: &'a [u8], at: usize) -> Result<Option<Field<'a>>, Fault>
         [tag, high, low, more @ ..] => {
             let size = u16::from_be_bytes([*high, *low]) as usize;
             if more.len() < size {
-                return Err(Fault {
-                    kind: FaultKind::BodyCut,
-                    at,
-                });
+                return Err(FaultKind::BodyCut.at(at));
             }
             Ok(Some(Field {
                 tag: *tag,
@@ -45,10 +42,7 @@ fn front<'a>(left: &'a [u8], at: usize) -> Result<Option<Field<'a>>, Fault>
                 at,
             }))
         }
-        _ => Err(Fault {
-            kind: FaultKind::HeaderCut,
-            at,
-        }),
+        _ => Err(FaultKind::HeaderCut.at(at)),
     }
 }
 
@@ -58,10 +52,7 @@ impl<'a> Reader<'a> {
         ensures { λ r. ⌜ Opens (now (script .entry)) r ⌝ }
     {
         if script.len() > LONGEST {
-            return Err(Fault {
-                kind: FaultKind::TooLong,
-                at: 0,
-            });
+            return Err(FaultKind::TooLong.at(0));
         }
         Ok(Reader { script, at: 0 })
     }

@@ -19,10 +19,7 @@ fn prepare<'a>(body: &'a [u8], at: usize) -> Result<Record<Part<'a>>, Fault>
     ensures { λ r. ⌜ ((width : ℕ) (readable : List ℕ → Bool) → Says width readable 1 (now (body .entry)) at (seen r)) ⌝ }
 {
     let [stations, high, low, room] = body else {
-        return Err(Fault {
-            kind: FaultKind::WrongLength,
-            at,
-        });
+        return Err(FaultKind::WrongLength.at(at));
     };
     Ok(Record::Prepare {
         stations: *stations,
@@ -36,16 +33,10 @@ fn value_part<'a, V: Value>(bytes: &'a [u8], at: usize) -> Result<Part<'a>, Faul
     ensures { λ r. ⌜ ValueSays width (λ bytes. isSome (reads bytes)) (now (bytes .entry)) at (pieceSeen r) ⌝ }
 {
     if bytes.len() != V::width() {
-        return Err(Fault {
-            kind: FaultKind::WrongLength,
-            at,
-        });
+        return Err(FaultKind::WrongLength.at(at));
     }
     if V::read(bytes).is_none() {
-        return Err(Fault {
-            kind: FaultKind::Unreadable,
-            at,
-        });
+        return Err(FaultKind::Unreadable.at(at));
     }
     Ok(Part { bytes, at })
 }
@@ -54,10 +45,7 @@ fn set<'a, V: Value>(body: &'a [u8], at: usize) -> Result<Record<Part<'a>>, Faul
     ensures { λ r. ⌜ Says width (λ bytes. isSome (reads bytes)) 2 (now (body .entry)) at (seen r) ⌝ }
 {
     let [high, low, bytes @ ..] = body else {
-        return Err(Fault {
-            kind: FaultKind::WrongLength,
-            at,
-        });
+        return Err(FaultKind::WrongLength.at(at));
     };
     let value = value_part::<V>(bytes, at)?;
     Ok(Record::Set {
@@ -71,10 +59,7 @@ fn start<'a>(body: &'a [u8], at: usize) -> Result<Record<Part<'a>>, Fault>
 {
     match body {
         [] => Ok(Record::Start),
-        _ => Err(Fault {
-            kind: FaultKind::WrongLength,
-            at,
-        }),
+        _ => Err(FaultKind::WrongLength.at(at)),
     }
 }
 
@@ -82,10 +67,7 @@ fn load<'a>(body: &'a [u8], at: usize) -> Result<Record<Part<'a>>, Fault>
     ensures { λ r. ⌜ ((width : ℕ) (readable : List ℕ → Bool) → Says width readable 4 (now (body .entry)) at (seen r)) ⌝ }
 {
     let [station, high, low] = body else {
-        return Err(Fault {
-            kind: FaultKind::WrongLength,
-            at,
-        });
+        return Err(FaultKind::WrongLength.at(at));
     };
     Ok(Record::Load {
         station: *station,
@@ -97,10 +79,7 @@ fn store<'a, V: Value>(body: &'a [u8], at: usize) -> Result<Record<Part<'a>>, Fa
     ensures { λ r. ⌜ Says width (λ bytes. isSome (reads bytes)) 5 (now (body .entry)) at (seen r) ⌝ }
 {
     let [station, high, low, bytes @ ..] = body else {
-        return Err(Fault {
-            kind: FaultKind::WrongLength,
-            at,
-        });
+        return Err(FaultKind::WrongLength.at(at));
     };
     let value = value_part::<V>(bytes, at)?;
     Ok(Record::Store {
@@ -114,20 +93,14 @@ fn fire<'a>(body: &'a [u8], at: usize) -> Result<Record<Part<'a>>, Fault>
     ensures { λ r. ⌜ ((width : ℕ) (readable : List ℕ → Bool) → Says width readable 6 (now (body .entry)) at (seen r)) ⌝ }
 {
     let [number, station] = body else {
-        return Err(Fault {
-            kind: FaultKind::WrongLength,
-            at,
-        });
+        return Err(FaultKind::WrongLength.at(at));
     };
     match FiringKind::numbered(*number) {
         Some(kind) => Ok(Record::Fire {
             kind,
             station: *station,
         }),
-        None => Err(Fault {
-            kind: FaultKind::Unreadable,
-            at,
-        }),
+        None => Err(FaultKind::Unreadable.at(at)),
     }
 }
 
@@ -136,10 +109,7 @@ fn close<'a>(body: &'a [u8], at: usize) -> Result<Record<Part<'a>>, Fault>
 {
     match body {
         [] => Ok(Record::Close),
-        _ => Err(Fault {
-            kind: FaultKind::WrongLength,
-            at,
-        }),
+        _ => Err(FaultKind::WrongLength.at(at)),
     }
 }
 
@@ -147,10 +117,7 @@ fn readout<'a>(body: &'a [u8], at: usize) -> Result<Record<Part<'a>>, Fault>
     ensures { λ r. ⌜ ((width : ℕ) (readable : List ℕ → Bool) → Says width readable 8 (now (body .entry)) at (seen r)) ⌝ }
 {
     let [high, low] = body else {
-        return Err(Fault {
-            kind: FaultKind::WrongLength,
-            at,
-        });
+        return Err(FaultKind::WrongLength.at(at));
     };
     Ok(Record::Readout {
         page: u16::from_be_bytes([*high, *low]),
@@ -190,10 +157,7 @@ fn record_of<'a, V: Value>(field: Field<'a>) -> Result<Record<Part<'a>>, Fault>
         FIRE => fire(body, at),
         CLOSE => close(body, at),
         READOUT => readout(body, at),
-        _ => Err(Fault {
-            kind: FaultKind::UnknownTag,
-            at,
-        }),
+        _ => Err(FaultKind::UnknownTag.at(at)),
     }
 }
 

@@ -7,6 +7,7 @@ use borrow.Rule.Slice.PartMut.{putMid, postOf}
 use lib.ListN.{length, take, drop, length-append, length-drop, take-append-drop}
 use Rattle.std.proofs.shelf.Lists.{take-at, take-rest, drop-all, drop-at, drop-drop, length-take-le}
 use Rattle.std.proofs.shelf.Tests.{le-leb, lt-leb, cond-true, cond-false}
+use Rattle.std.specs.declared.result.Result.{Result}
 use Rattle.std.specs.declared.result.Result.the-variants.{Ok, Err}
 use Rattle.values.specs.declared.buffer.TooShort.{TooShort}
 use Rattle.values.specs.Writing.{answered, written}
@@ -26,6 +27,9 @@ module _ (bytes buffer : List ℕ) where
 
   pub at-front : (n : ℕ) → Ok n ≡ answered bytes buffer → take n (written bytes buffer) ≡ bytes
   at-front n e = let long = was-long n e in ap (take n) (accepted (long .1) .1) ∙ take-at bytes (drop (length bytes) buffer) n (sym (long .0))
+
+pub at-same-bytes : (bytes bytes′ buffer last : List ℕ) (r : Result ℕ TooShort) → bytes ≡ bytes′ → r ≡ answered bytes buffer → last ≡ written bytes buffer → (r ≡ answered bytes′ buffer) × (last ≡ written bytes′ buffer)
+at-same-bytes bytes bytes′ buffer last r e a w = (a ∙ ap (λ (l : List ℕ). answered l buffer) e, w ∙ ap (λ (l : List ℕ). written l buffer) e)
 
 -- `part` is what the buffer holds past the length of `head` once `body` was put there
 module _ (head body out part : List ℕ) (room : length head ≤ length out) (put : part ≡ written body (take (length out - length head) (drop (length head) out))) where

@@ -1,36 +1,33 @@
 -- Fields at the front of a list of bytes. Assumes nothing.
 use Prim.Native.Nat.{ℕ, suc, _+_, _-_, _*_, _/_, _%_, _≤_, _<_}
 use mathlib.Core.Path.{_≡_, refl, sym, ap, subst, _∙_}
-use mathlib.Core.Logic.{_⊎_, ⊎-elim}
 use mathlib.Core.List.{List, [], _∷_, _++_}
 use native.Mathlib.Omega.{arith}
 use lib.ListN.{length, getD, take, drop, take-append-drop, length-append}
-use Rattle.std.proofs.shelf.Lists.{take-at, drop-at, drop-more, take-rest, length-take-le, getD-append-left}
+use Rattle.std.proofs.shelf.Lists.{take-at, drop-at, drop-more, take-rest, getD-append-left}
 use Rattle.std.proofs.shelf.Elements.{all-from-getD}
 use Rattle.std.specs.shelf.Digits.{Under}
 use Rattle.messages.specs.Bytes.{word, field}
 
 -- the three bytes before a body, and the rest
 pub opened : (s : List ℕ) → 3 ≤ length s → s ≡ getD s 0 0 ∷ getD s 1 0 ∷ getD s 2 0 ∷ take (length s - 3) (drop 3 s)
-opened s h = cc (drop-more s 0 0 (omega arith), drop-more s 1 0 (omega arith), drop-more s 2 0 (omega arith), take-rest s 3)
+opened s long = cc (drop-more s 0 0 (omega arith), drop-more s 1 0 (omega arith), drop-more s 2 0 (omega arith), take-rest s 3)
 
-module _ (tag size first high low : ℕ) (rest : List ℕ) (size-is : size ≡ high * 256 + low) where
-  pub found : first ≡ tag → low < 256 → size ≤ length rest → (body after : List ℕ) → body ≡ take size rest → after ≡ drop size rest → first ∷ high ∷ low ∷ rest ≡ field tag body ++ after
-  found t l room body after b a =
-      let long : length body ≡ size = ap length b ∙ length-take-le size rest room in
+module _ (tag size high low : ℕ) (rest : List ℕ) (size-is : size ≡ high * 256 + low) where
+  pub found : low < 256 → (body after : List ℕ) → length body ≡ size → body ≡ take size rest → after ≡ drop size rest → tag ∷ high ∷ low ∷ rest ≡ field tag body ++ after
+  found small body after long b a =
       let upper : length body / 256 ≡ high = omega arith in
       let lower : length body % 256 ≡ low = omega arith in
       let whole : body ++ after ≡ rest = (λ i. b i ++ a i) ∙ take-append-drop size rest in
       cc
 
-  pub absent : ((first ≡ tag → ⊥) ⊎ (length rest < size)) → (body after : List ℕ) → first ∷ high ∷ low ∷ rest ≡ field tag body ++ after → ⊥
-  absent wrong body after is =
-      let same : first ≡ tag = cc in
+  pub absent : length rest < size → (first : ℕ) (body after : List ℕ) → tag ∷ high ∷ low ∷ rest ≡ field first body ++ after → ⊥
+  absent short first body after is =
       let upper : high ≡ length body / 256 = cc in
       let lower : low ≡ length body % 256 = cc in
       let whole : rest ≡ body ++ after = cc in
       let long : length rest ≡ length body + length after = ap length whole ∙ length-append body after in
-      ⊎-elim (λ other. other same) (λ short. omega arith) wrong
+      omega arith
 
 -- a list begins with one field of a tag at the most
 pub unique : (tag : ℕ) (b b′ r r′ : List ℕ) → field tag b ++ r ≡ field tag b′ ++ r′ → (b ≡ b′) × (r ≡ r′)
@@ -49,8 +46,16 @@ under-body tag s body rest small is =
     all-from-getD (λ b. b < 256) body 0
     (λ i below. subst (λ b. b < 256) (ap (λ (l : List ℕ). getD l (suc (suc (suc i))) 0) is ∙ getD-append-left body rest 0 i below) (small (suc (suc (suc i)))))
 
-pub two-bytes : (n : ℕ) (r : List ℕ) → n < 65536 → r ≡ (n / 256 % 256) ∷ (n % 256) ∷ [] → r ≡ word n
-two-bytes n r small e = let upper : n / 256 % 256 ≡ n / 256 = omega arith in cc
+pub one-byte : (s : List ℕ) → length s ≡ 1 → s ≡ getD s 0 0 ∷ []
+one-byte [] e = absurd (omega arith)
+one-byte (x ∷ []) e = refl
+one-byte (x ∷ y ∷ s) e = absurd (omega arith)
+
+pub two-bytes : (s : List ℕ) (n : ℕ) → length s ≡ 2 → n ≡ getD s 0 0 * 256 + getD s 1 0 → getD s 1 0 < 256 → s ≡ word n
+two-bytes [] n e is small = absurd (omega arith)
+two-bytes (x ∷ []) n e is small = absurd (omega arith)
+two-bytes (x ∷ y ∷ []) n e is small = let upper : n / 256 ≡ x = omega arith in let lower : n % 256 ≡ y = omega arith in cc
+two-bytes (x ∷ y ∷ z ∷ s) n e is small = absurd (omega arith)
 
 pub same-word : (p q : ℕ) → p / 256 ≡ q / 256 → p % 256 ≡ q % 256 → p ≡ q
 same-word p q upper lower = omega arith

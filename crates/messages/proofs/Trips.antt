@@ -5,18 +5,17 @@ use mathlib.Core.List.{List}
 use native.Mathlib.Nat.{sub-zero}
 use native.Mathlib.Omega.{arith}
 use lib.ListN.{length, take}
-use Rattle.std.proofs.shelf.Tests.{le-leb, lt-leb, cond-true, cond-false}
+use Rattle.std.proofs.shelf.Tests.{le-leb, cond-true}
 use Rattle.std.specs.declared.option.Option.{Option}
 use Rattle.std.specs.declared.option.Option.the-variants.{Some, None}
-use Rattle.std.specs.declared.result.Result.the-variants.{Ok, Err}
-use Rattle.values.specs.declared.buffer.TooShort.{TooShort}
+use Rattle.std.specs.declared.result.Result.the-variants.{Ok}
 use Rattle.values.specs.Writing.{answered, written}
 use Rattle.messages.specs.declared.message.Message.{Message}
 use Rattle.messages.specs.Bytes.{valueOf, valueField, messageBytes}
 use Rattle.messages.specs.Reading.{Reads}
-use Rattle.messages.specs.RoundTrip.{itself, Reads-back-as-itself, Writes-back-the-same-bytes, Same-bytes-same-message, At-most-width-and-twelve}
+use Rattle.messages.specs.RoundTrip.{itself, Reads-back-as-itself, Same-bytes-same-message, At-most-width-and-twelve, Round-trip}
 use Rattle.messages.proofs.Parts.{same-message}
-use Rattle.messages.proofs.Buffers.{was-short, was-long, at-front}
+use Rattle.messages.proofs.Buffers.{was-long, at-front}
 
 module _ {V : Type 0} (bytes : V → List ℕ) (reads : List ℕ → Option V) (back : (v : V) → reads (bytes v) ≡ Some v) where
   same : Same-bytes-same-message bytes
@@ -36,11 +35,8 @@ module _ {V : Type 0} (bytes : V → List ℕ) (reads : List ℕ → Option V) (
   longest : (width : ℕ) → ((v : V) → length (bytes v) ≡ width) → At-most-width-and-twelve bytes width
   longest width fixed m = omega (arith, value-long width fixed (valueOf (m .kind)))
 
-  pub round-trip : (width : ℕ) → ((v : V) → length (bytes v) ≡ width) → Reads-back-as-itself bytes × Writes-back-the-same-bytes bytes × Same-bytes-same-message bytes × At-most-width-and-twelve bytes width
+  pub round-trip : (width : ℕ) → ((v : V) → length (bytes v) ≡ width) → Round-trip bytes width
   round-trip width fixed = (reads-back, (λ s m buffer size read e. at-front (messageBytes bytes m) buffer size (sym e) ∙ sym read), same, longest width fixed)
-
-  pub denied : (m : Message V) (buffer : List ℕ) (x : TooShort) → Err x ≡ answered (messageBytes bytes m) buffer → Err x ≡ itself bytes m buffer
-  denied m buffer x e = sym (cond-false _ _ _ (lt-leb _ _ (was-short (messageBytes bytes m) buffer x e)))
 
   pub given : (m : Message V) (buffer last : List ℕ) (size : ℕ) (r : Option (Message V)) → Ok size ≡ answered (messageBytes bytes m) buffer → last ≡ written (messageBytes bytes m) buffer → Reads (messageBytes bytes) (take (size - 0) last) r → Ok r ≡ itself bytes m buffer
   given m buffer last size r e is read =

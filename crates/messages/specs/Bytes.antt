@@ -16,9 +16,17 @@ word n = (n / 256) ∷ (n % 256) ∷ []
 abbrev pub field : ℕ → List ℕ → List ℕ
 field tag body = tag ∷ (word (length body) ++ body)
 
--- a field, by its body, and what follows it
-abbrev pub fieldAndRest : ℕ → List ℕ × List ℕ → List ℕ
-fieldAndRest tag p = field tag (p .0) ++ p .1
+-- a field, by its tag and its body, and what follows it
+abbrev pub fieldAndRest : ℕ → List ℕ → List ℕ → List ℕ
+fieldAndRest tag body rest = field tag body ++ rest
+
+-- the fields of a kind's number and of a page, and what follows them
+abbrev pub kindAndPage : ℕ → ℕ → List ℕ → List ℕ
+kindAndPage number page rest = field 1 (number ∷ []) ++ field 2 (word page) ++ rest
+
+-- the tag of a value
+abbrev pub valueTag : ℕ
+valueTag = 3
 
 -- no message has more bytes, where every value has `width` of them
 abbrev pub maxSize : ℕ → ℕ
@@ -55,7 +63,7 @@ module _ {V : Type 0} where
   -- the field of a value, or nothing where there is none; `bytes` has the bytes of each value
   abbrev pub valueField : (V → List ℕ) → Option V → List ℕ
   valueField bytes None = []
-  valueField bytes (Some v) = field 3 (bytes v)
+  valueField bytes (Some v) = field valueTag (bytes v)
 
   abbrev pub messageBytes : (V → List ℕ) → Message V → List ℕ
-  messageBytes bytes m = field 1 (kindNumber (m .kind) ∷ []) ++ field 2 (word (m .page)) ++ valueField bytes (valueOf (m .kind))
+  messageBytes bytes m = kindAndPage (kindNumber (m .kind)) (m .page) (valueField bytes (valueOf (m .kind)))

@@ -40,3 +40,7 @@ module _ {V : Type 0} (bytes : V → List ℕ) where
 
   abbrev pub At-most-width-and-twelve : ℕ → Type 0
   At-most-width-and-twelve width = (m : Message V) → length (messageBytes bytes m) ≤ maxSize width
+
+  -- the theorem of writing and reading, at values of `width` bytes
+  abbrev pub Round-trip : ℕ → Type 0
+  Round-trip width = Reads-back-as-itself × Writes-back-the-same-bytes × Same-bytes-same-message × At-most-width-and-twelve width

@@ -17,16 +17,16 @@ some g c none = false-eqb _ 0 (c .if-is-empty .ensures tt) (ap length none)
 pub returns-in-Break-body : need.returns-in-Break-body
 returns-in-Break-body g c = rw (c .from-residual .ensures) (no-field (g .V·Value .bytes) _ (some g (need.at·returns-in-Break-body g c .Else-is-empty)) (c .in-Break-body .ensures tt))
 
-pub returns-then-not-is-empty : need.returns-then-not-is-empty
-returns-then-not-is-empty g c =
-    more-after (g .V·Value .bytes) _ (some g (need.at·returns-then-not-is-empty g c .Else-is-empty)) _ _ (c .in-Continue-body .ensures tt) (λ none. false-eqb _ 0 (c .if-not-is-empty .ensures tt) (ap length none))
+pub returns-else-is-empty-2 : need.returns-else-is-empty-2
+returns-else-is-empty-2 g c =
+    more-after (g .V·Value .bytes) _ (some g (need.at·returns-else-is-empty-2 g c .Else-is-empty)) _ _ (c .in-Continue-body .ensures tt) (λ none. false-eqb _ 0 (c .if-is-empty-2 .ensures tt) (ap length none))
 
 pub returns-in-Break-read : need.returns-in-Break-read
 returns-in-Break-read g c =
     rw (c .from-residual-in-Break-read .ensures)
     (unread (g .V·Value .bytes) _ (some g (need.at·returns-in-Break-read g c .Else-is-empty)) _ _ (c .in-Continue-body .ensures tt) (g .V·Value .reads) (g .V·Value·met .back) (c .in-Break-read .ensures tt))
 
-pub returns : need.returns
-returns g c =
-    value-read (g .V·Value .bytes) _ (some g (need.at·returns g c .Else-is-empty)) _ _ (c .in-Continue-body .ensures tt) (g .V·Value .reads) (g .V·Value·met .only) (λ i. c .typed .from i .fits)
-    (nil-from-length _ (true-eqb _ 0 (c .if-not-is-empty .ensures tt))) _ (c .in-Continue-read .ensures tt)
+pub returns-in-Continue-read : need.returns-in-Continue-read
+returns-in-Continue-read g c =
+    value-read (g .V·Value .bytes) _ (some g (need.at·returns-in-Continue-read g c .Else-is-empty)) _ _ (c .in-Continue-body .ensures tt) (g .V·Value .reads) (g .V·Value·met .only) (λ i. c .typed .from i .fits)
+    (nil-from-length _ (true-eqb _ 0 (c .if-is-empty-2 .ensures tt))) _ (c .in-Continue-read .ensures tt)

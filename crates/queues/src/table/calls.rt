@@ -1,0 +1,125 @@
+ghost use mathlib.Core.Path.{_≡_};
+ghost use mathlib.Core.Bool.{cond};
+ghost use Prim.Native.Nat.{ℕ, _+_, _-_, _*_, _%_, _<_, _≤_};
+ghost use lib.Dec.{ltb};
+ghost use lib.ListN.{length};
+ghost use Rattle.std.specs.shelf.Maps.{nth};
+ghost use Rattle.std.specs.declared.option.Option.the-variants.{Some, None};
+ghost use Rattle.queues.specs.View.{mostRows, mostPlaces, canDrop, afterDrop, grantedIf, empty, made};
+ghost use Rattle.queues.specs.Positions.{positionOf};
+ghost use Rattle.queues.specs.Places.{placesIn, Taking};
+use super::MOST_PLACES;
+use super::MOST_ROWS;
+use super::Table;
+use crate::denied::Denied;
+use crate::position::Position;
+
+impl Table {
+    // A table for so many entries, in which nothing waits; it has no row where the sizes do not fit.
+    pub fn new(entries: usize, rows: usize, places: usize) -> Table
+        ensures { λ r. ⌜ placesIn entries r ≡ made entries rows places ⌝ }
+    {
+        if rows > MOST_ROWS || places > MOST_PLACES || rows * places > entries {
+            return Table::empty(0, 0);
+        }
+        Table::empty(rows, places)
+    }
+
+    // A table in which nothing waits.
+    fn empty(rows: usize, places: usize) -> Table
+        requires { ⌜ rows ≤ mostRows ⌝ ∗ ⌜ places ≤ mostPlaces ⌝ }
+        ensures { λ r. ⌜ ((entries : ℕ) → rows * places ≤ entries → placesIn entries r ≡ empty rows places) ⌝ }
+    {
+        Table {
+            rows,
+            places,
+            positions: [Position::empty(); MOST_ROWS],
+        }
+    }
+
+    // How many rows the table serves over so many entries.
+    pub fn rows(&self, entries: usize) -> usize
+        ensures { λ r. ⌜ r ≡ placesIn entries (now (self .entry)) .rows ⌝ }
+    {
+        if self.rows * self.places <= entries {
+            self.rows
+        } else {
+            0
+        }
+    }
+
+    // How many places each row has.
+    pub fn places(&self) -> usize
+        ensures { λ r. ⌜ r ≡ now (self .entry) .places ⌝ }
+    {
+        self.places
+    }
+
+    // How many entries wait in a row.
+    pub fn waiting(&self, entries: usize, row: usize) -> usize
+        ensures { λ r. ⌜ r ≡ length (placesIn entries (now (self .entry)) .row row) ⌝ }
+    {
+        match self.position(entries, row) {
+            Some(position) => position.waiting,
+            None => 0,
+        }
+    }
+
+    // The place of the oldest entry of a row, if one waits.
+    pub fn oldest(&self, entries: usize, row: usize) -> Option<usize>
+        ensures { λ r. ⌜ r ≡ nth (placesIn entries (now (self .entry)) .row row) 0 ⌝ }
+    {
+        let column = self.position(entries, row)?.oldest_column()?;
+        Some(self.place(row, column))
+    }
+
+    // Takes the place after the newest entry of a row, where the new entry is then to be written; denied where
+    // the row has no room or is not there.
+    pub fn take_next(&mut self, entries: usize, row: usize) -> Result<usize, Denied>
+        ensures { λ r. ⌜ Taking entries row (placesIn entries (now (self .entry))) r (placesIn entries (now (self .exit))) ⌝ }
+    {
+        let Some(position) = self.position(entries, row) else {
+            return Err(Denied);
+        };
+        let Some(column) = position.next_column(self.places) else {
+            return Err(Denied);
+        };
+        self.positions[row].grow();
+        Ok(self.place(row, column))
+    }
+
+    // Gives up the place of the oldest entry of a row; denied where nothing waits.
+    pub fn give_up_oldest(&mut self, entries: usize, row: usize) -> Result<(), Denied>
+        ensures answer { λ r. ⌜ r ≡ grantedIf (canDrop (placesIn entries (now (self .entry))) row) ⌝ }
+        ensures after { λ _. ⌜ placesIn entries (now (self .exit)) ≡ afterDrop (placesIn entries (now (self .entry))) row ⌝ }
+    {
+        let Some(position) = self.position(entries, row) else {
+            return Err(Denied);
+        };
+        if position.waiting == 0 {
+            return Err(Denied);
+        }
+        let places = self.places;
+        self.positions[row].shrink(places);
+        Ok(())
+    }
+
+    // The position of a row that is there.
+    fn position(&self, entries: usize, row: usize) -> Option<Position>
+        ensures { λ r. ⌜ r ≡ cond (ltb row (placesIn entries (now (self .entry)) .rows)) (Some (positionOf (now (self .entry) .positions) row)) None ⌝ }
+    {
+        if row < self.rows(entries) {
+            Some(self.positions[row])
+        } else {
+            None
+        }
+    }
+
+    // The place of a row's column.
+    fn place(&self, row: usize, column: usize) -> usize
+        requires { ⌜ row < mostRows ⌝ ∗ ⌜ column < mostPlaces ⌝ }
+        ensures { λ r. ⌜ r ≡ row * now (self .entry) .places + column ⌝ }
+    {
+        row * self.places + column
+    }
+}

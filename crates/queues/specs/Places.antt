@@ -2,7 +2,7 @@
 use mathlib.Core.Path.{_≡_}
 use mathlib.Core.Logic.{_≢_}
 use mathlib.Core.Bool.{true, false, cond}
-use mathlib.Core.List.{List, [], _∷_, map}
+use mathlib.Core.List.{List, map}
 use Prim.Native.Nat.{ℕ, _+_, _*_, _%_, _<_}
 use lib.Dec.{leb, ltb}
 use lib.ListN.{length, take, drop}
@@ -12,7 +12,7 @@ use Rattle.std.specs.shelf.Lists.{All, joined}
 use Rattle.std.specs.declared.result.Result.{Result}
 use Rattle.std.specs.declared.result.Result.the-variants.{Ok, Err}
 use Rattle.queues.specs.View.{RowsView, canPut, afterPut}
-use Rattle.queues.specs.Positions.{positionOf}
+use Rattle.queues.specs.Positions.{nothing, positionOf}
 use Rattle.queues.specs.declared.denied.Denied.{Denied}
 use Rattle.queues.specs.declared.position.Position.{Position}
 use Rattle.queues.specs.declared.table.Table.{Table}
@@ -22,17 +22,20 @@ use Rattle.queues.specs.declared.queue.Queues.{Queues}
 abbrev pub served : ℕ → ℕ → ℕ → ℕ
 served entries rows places = cond (leb (rows * places) entries) rows 0
 
+-- a row's position over so many entries; nothing waits in a row that is not served
+abbrev pub positionIn : ℕ → ℕ → ℕ → List Position → ℕ → Position
+positionIn entries rows places positions row = cond (ltb row (served entries rows places)) (positionOf positions row) nothing
+
 -- so many places of a row from a column on: they go round in the row
 abbrev pub placesFrom : ℕ → ℕ → ℕ → ℕ → List ℕ
 placesFrom places row column count = map (λ k. row * places + k % places) (counting column count)
 
--- the places of what waits in a row, the oldest first
 abbrev pub placesAt : ℕ → ℕ → Position → List ℕ
 placesAt places row p = placesFrom places row (p .oldest) (p .waiting)
 
--- the same over so many entries; nothing waits in a row that is not served
+-- the places of what waits in a row, the oldest first
 unfoldable pub rowPlaces : ℕ → ℕ → ℕ → List Position → ℕ → List ℕ
-rowPlaces entries rows places positions row = cond (ltb row (served entries rows places)) (placesAt places row (positionOf positions row)) []
+rowPlaces entries rows places positions row = placesAt places row (positionIn entries rows places positions row)
 
 abbrev pub placesOver : ℕ → ℕ → ℕ → List Position → RowsView ℕ
 placesOver entries rows places positions =

@@ -8,9 +8,13 @@ use Rattle.std.specs.declared.option.Option.{Option}
 use Rattle.std.specs.declared.option.Option.the-variants.{Some, None}
 use Rattle.queues.specs.declared.position.Position.{Position}
 
--- a row's position; a row that is not there has nothing waiting
+-- the position of a row in which nothing waits
+abbrev pub nothing : Position
+nothing = record { oldest = 0; waiting = 0 }
+
+-- a row's position; nothing waits past the last
 abbrev pub positionOf : List Position → ℕ → Position
-positionOf positions row = getD positions row (record { oldest = 0; waiting = 0 })
+positionOf positions row = getD positions row nothing
 
 -- the column of the oldest entry, if one waits
 abbrev pub oldestColumn : Position → Option ℕ

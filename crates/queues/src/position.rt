@@ -1,7 +1,7 @@
 ghost use mathlib.Core.Path.{_≡_};
 ghost use Prim.Native.Nat.{ℕ, _+_, _-_, _%_, _<_, _≤_};
 ghost use Rattle.queues.specs.View.{mostPlaces};
-ghost use Rattle.queues.specs.Positions.{oldestColumn, nextColumn};
+ghost use Rattle.queues.specs.Positions.{nothing, oldestColumn, nextColumn};
 
 // Where the entries of one row lie: the column of the oldest, and how many wait from there on.
 #[derive(Clone, Copy)]
@@ -13,8 +13,7 @@ pub(crate) struct Position {
 impl Position {
     // The position of a row in which nothing waits.
     pub(crate) fn empty() -> Position
-        ensures oldest { λ r. ⌜ r .oldest ≡ 0 ⌝ }
-        ensures waiting { λ r. ⌜ r .waiting ≡ 0 ⌝ }
+        ensures { λ r. ⌜ r ≡ nothing ⌝ }
     {
         Position {
             oldest: 0,
@@ -35,7 +34,7 @@ impl Position {
 
     // The column after the newest entry, if there is room.
     pub(crate) fn next_column(&self, places: usize) -> Option<usize>
-        requires { ⌜ now self .oldest < mostPlaces ⌝ ∗ ⌜ places ≤ mostPlaces ⌝ }
+        requires { ⌜ now self .oldest < mostPlaces ⌝ ∗ ⌜ now self .waiting ≤ mostPlaces ⌝ }
         ensures { λ r. ⌜ r ≡ nextColumn places (now (self .entry)) ⌝ }
     {
         if self.waiting < places {

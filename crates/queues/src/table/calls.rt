@@ -1,13 +1,9 @@
 ghost use mathlib.Core.Path.{_≡_};
-ghost use mathlib.Core.Bool.{cond};
 ghost use Prim.Native.Nat.{ℕ, _+_, _-_, _*_, _%_, _<_, _≤_};
-ghost use lib.Dec.{ltb};
 ghost use lib.ListN.{length};
 ghost use Rattle.std.specs.shelf.Maps.{nth};
-ghost use Rattle.std.specs.declared.option.Option.the-variants.{Some, None};
 ghost use Rattle.queues.specs.View.{mostRows, mostPlaces, canDrop, afterDrop, grantedIf, empty, made};
-ghost use Rattle.queues.specs.Positions.{positionOf};
-ghost use Rattle.queues.specs.Places.{placesIn, Taking};
+ghost use Rattle.queues.specs.Places.{positionIn, placesIn, Taking};
 use super::MOST_PLACES;
 use super::MOST_ROWS;
 use super::Table;
@@ -59,17 +55,14 @@ impl Table {
     pub fn waiting(&self, entries: usize, row: usize) -> usize
         ensures { λ r. ⌜ r ≡ length (placesIn entries (now (self .entry)) .row row) ⌝ }
     {
-        match self.position(entries, row) {
-            Some(position) => position.waiting,
-            None => 0,
-        }
+        self.position(entries, row).waiting
     }
 
     // The place of the oldest entry of a row, if one waits.
     pub fn oldest(&self, entries: usize, row: usize) -> Option<usize>
         ensures { λ r. ⌜ r ≡ nth (placesIn entries (now (self .entry)) .row row) 0 ⌝ }
     {
-        let column = self.position(entries, row)?.oldest_column()?;
+        let column = self.position(entries, row).oldest_column()?;
         Some(self.place(row, column))
     }
 
@@ -78,10 +71,10 @@ impl Table {
     pub fn take_next(&mut self, entries: usize, row: usize) -> Result<usize, Denied>
         ensures { λ r. ⌜ Taking entries row (placesIn entries (now (self .entry))) r (placesIn entries (now (self .exit))) ⌝ }
     {
-        let Some(position) = self.position(entries, row) else {
+        if row >= self.rows(entries) {
             return Err(Denied);
-        };
-        let Some(column) = position.next_column(self.places) else {
+        }
+        let Some(column) = self.position(entries, row).next_column(self.places) else {
             return Err(Denied);
         };
         self.positions[row].grow();
@@ -93,9 +86,7 @@ impl Table {
         ensures answer { λ r. ⌜ r ≡ grantedIf (canDrop (placesIn entries (now (self .entry))) row) ⌝ }
         ensures after { λ _. ⌜ placesIn entries (now (self .exit)) ≡ afterDrop (placesIn entries (now (self .entry))) row ⌝ }
     {
-        let Some(position) = self.position(entries, row) else {
-            return Err(Denied);
-        };
+        let position = self.position(entries, row);
         if position.waiting == 0 {
             return Err(Denied);
         }
@@ -104,14 +95,15 @@ impl Table {
         Ok(())
     }
 
-    // The position of a row that is there.
-    fn position(&self, entries: usize, row: usize) -> Option<Position>
-        ensures { λ r. ⌜ r ≡ cond (ltb row (placesIn entries (now (self .entry)) .rows)) (Some (positionOf (now (self .entry) .positions) row)) None ⌝ }
+    // The position of a row; nothing waits in a row that is not there.
+    fn position(&self, entries: usize, row: usize) -> Position
+        ensures is { λ r. ⌜ r ≡ positionIn entries (now (self .entry) .rows) (now (self .entry) .places) (now (self .entry) .positions) row ⌝ }
+        ensures count { λ r. ⌜ r .waiting ≡ length (placesIn entries (now (self .entry)) .row row) ⌝ }
     {
         if row < self.rows(entries) {
-            Some(self.positions[row])
+            self.positions[row]
         } else {
-            None
+            Position::empty()
         }
     }
 

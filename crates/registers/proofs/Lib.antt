@@ -1,0 +1,3 @@
+pub mod Counting
+pub mod Bitwise
+pub mod Listed

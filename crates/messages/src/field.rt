@@ -1,4 +1,5 @@
-ghost use Prim.Native.Nat.{ℕ};
+ghost use mathlib.Core.Path.{_≡_};
+ghost use Prim.Native.Nat.{ℕ, _+_, _*_};
 ghost use mathlib.Core.List.{List};
 ghost use Rattle.std.specs.Options.{mapped};
 ghost use Rattle.messages.specs.Bytes.{fieldAndRest};
@@ -18,13 +19,20 @@ pub fn take_field(from: &[u8], tag: u8) -> Option<(&[u8], &[u8])>
 }
 
 // The tag and the body of the field at the front of `from`, and what follows it.
-fn split_field(from: &[u8]) -> Option<(u8, &[u8], &[u8])>
+pub fn split_field(from: &[u8]) -> Option<(u8, &[u8], &[u8])>
     ensures { λ r. ⌜ Reads (λ (p : ℕ × List ℕ × List ℕ). fieldAndRest (p .0) (p .1) (p .2)) (now (from .entry)) (mapped (λ p. (p .0, now (p .1), now (p .2))) r) ⌝ }
 {
     let [tag, high, low, rest @ ..] = from else {
         return None;
     };
-    let size = u16::from_be_bytes([*high, *low]) as usize;
+    let size = announced(*high, *low);
     let (body, after) = rest.split_at_checked(size)?;
     Some((*tag, body, after))
+}
+
+// The length that a header says, highest byte first.
+fn announced(high: u8, low: u8) -> usize
+    ensures { λ r. ⌜ r ≡ high * 256 + low ⌝ }
+{
+    u16::from_be_bytes([high, low]) as usize
 }

@@ -4,6 +4,7 @@ ghost use lib.ListN.{drop};
 ghost use Rattle.script.specs.Fields.{Opens, fieldFound, Front, after};
 use crate::fault::Fault;
 use crate::fault::FaultKind;
+use messages::field::split_field;
 
 // One field of a script: its tag, its body and the byte where it begins.
 #[derive(Clone, Copy)]
@@ -29,20 +30,15 @@ const HEADER: usize = 3;
 fn front<'a>(left: &'a [u8], at: usize) -> Result<Option<Field<'a>>, Fault>
     ensures { λ r. ⌜ Front (now (left .entry)) at (fieldFound r) ⌝ }
 {
-    match left {
-        [] => Ok(None),
-        [tag, high, low, more @ ..] => {
-            let size = u16::from_be_bytes([*high, *low]) as usize;
-            if more.len() < size {
-                return Err(FaultKind::BodyCut.at(at));
-            }
-            Ok(Some(Field {
-                tag: *tag,
-                body: &more[0..size],
-                at,
-            }))
-        }
-        _ => Err(FaultKind::HeaderCut.at(at)),
+    if left.is_empty() {
+        return Ok(None);
+    }
+    if left.len() < HEADER {
+        return Err(FaultKind::HeaderCut.at(at));
+    }
+    match split_field(left) {
+        Some((tag, body, _)) => Ok(Some(Field { tag, body, at })),
+        None => Err(FaultKind::BodyCut.at(at)),
     }
 }
 

@@ -1,10 +1,15 @@
 use mathlib.Core.Path.{refl}
-use borrow.Author.Needs.{needs}
-use Rattle.script.proofs.Fronts.{empty, field-front}
+use borrow.Author.Tests.{true-eqb}
+use Rattle.script.proofs.Fronts.{empty, body-cut}
 use Rattle.script.proofs.field.front.Needs as need
 
-pub returns-in-empty : need.returns-in-empty
-returns-in-empty c = empty _ (search needs)
+pub returns-then-is-empty : need.returns-then-is-empty
+returns-then-is-empty c = empty _ (true-eqb _ 0 (c .if-is-empty .ensures tt))
 
-pub returns-else-more-size : need.returns-else-more-size
-returns-else-more-size c = (refl, field-front (c .args .left .now) (c .from-be-bytes-size .result) (search needs) (c .from-be-bytes-size .ensures) (search needs) (c .if-more-size .left))
+pub returns-in-Some : need.returns-in-Some
+returns-in-Some c = (refl, (c .in-Some .field-0-2 .now, c .in-Some .ensures tt))
+
+pub returns-in-None : need.returns-in-None
+returns-in-None c =
+    rw (c .at-in-None .ensures)
+    (refl, (c .if-left-lt-HEADER .left, body-cut (c .args .left .now) (λ i. c .typed .left i .fits) (c .if-left-lt-HEADER .left) (λ tag body rest is. c .in-None .ensures tt (tag, body, rest) is)))

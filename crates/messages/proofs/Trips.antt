@@ -21,7 +21,7 @@ module _ {V : Type 0} (bytes : V → List ℕ) (reads : List ℕ → Option V) (
   same : Same-bytes-same-message bytes
   same = same-message bytes reads back
 
-  read-itself : (m : Message V) (r : Option (Message V)) → Reads (messageBytes bytes) (messageBytes bytes m) r → r ≡ Some m
+  pub read-itself : (m : Message V) (r : Option (Message V)) → Reads (messageBytes bytes) (messageBytes bytes m) r → r ≡ Some m
   read-itself m None e = absurd (e m refl)
   read-itself m (Some n) e = ap (λ (x : Message V). Some x) (sym (same m n e))
 
@@ -32,7 +32,7 @@ module _ {V : Type 0} (bytes : V → List ℕ) (reads : List ℕ → Option V) (
   value-long width fixed None = omega arith
   value-long width fixed (Some v) = omega (arith, fixed v)
 
-  longest : (width : ℕ) → ((v : V) → length (bytes v) ≡ width) → At-most-width-and-twelve bytes width
+  pub longest : (width : ℕ) → ((v : V) → length (bytes v) ≡ width) → At-most-width-and-twelve bytes width
   longest width fixed m = omega (arith, value-long width fixed (valueOf (m .kind)))
 
   pub round-trip : (width : ℕ) → ((v : V) → length (bytes v) ≡ width) → Round-trip bytes width

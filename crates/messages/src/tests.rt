@@ -36,6 +36,7 @@ fn trips<V: Value + PartialEq<V> + Debug>(
     check_eq(read(&out[0..size]), Some(message))
 }
 
+// Checks all ten kinds; `field` is the field of the value.
 fn all_trip<V: Value + PartialEq<V> + Debug>(value: V, field: &[u8]) -> Result<(), Fail> {
     trips::<V>(Kind::ShReq, 1, &[])?;
     trips::<V>(Kind::ExReq, 2, &[])?;
@@ -73,6 +74,7 @@ fn short_buffers_are_refused_and_kept() -> Result<(), Fail> {
     check_eq(shorter, [0xEE; 8])
 }
 
+// Checks that these bytes are no message's.
 fn unread<V: Value + PartialEq<V> + Debug>(from: &[u8]) -> Result<(), Fail> {
     check_eq(read::<V>(from), None)
 }

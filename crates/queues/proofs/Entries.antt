@@ -1,19 +1,18 @@
 -- What the calls of a table do to the rows of any list of entries. Assumes nothing.
 use mathlib.Core.Path.{_≡_, refl, sym, ap, subst, _∙_}
 use mathlib.Core.Logic.{_≢_, ⊎-elim}
-use mathlib.Core.Bool.{Bool, true, false, cond, _&&_}
+use mathlib.Core.Bool.{Bool, true, false, _&&_}
 use mathlib.Core.List.{List, [], _∷_, _++_}
 use Prim.Native.Nat.{ℕ, _+_, _-_, _≤_, _<_}
 use native.Mathlib.Omega.{arith}
-use lib.Dec.{eqb, ltb}
+use lib.Dec.{ltb}
 use lib.ListN.{length, take, drop, getD, set}
-use Rattle.std.specs.shelf.Lists.{All, joined}
+use Rattle.std.specs.shelf.Lists.{All}
 use Rattle.std.specs.shelf.Maps.{nth}
-use Rattle.std.specs.declared.option.Option.{Option}
 use Rattle.std.specs.declared.option.Option.the-variants.{Some, None}
-use Rattle.std.proofs.shelf.Lists.{length-append, length-set, length-take, length-drop, drop-more, drop-set-lt, take-set-le, drop-set-add, getD-set-same, joined-more, nil-from-length}
+use Rattle.std.proofs.shelf.Lists.{length-append, length-set, length-take, length-drop, drop-more, drop-set-lt, take-set-le, drop-set-add, getD-set-same, joined-more}
 use Rattle.std.proofs.shelf.Tests.{cond-true, cond-false, cases-bool, cases-lt}
-use Rattle.queues.specs.View.{RowsView, changed, withRow, canPut, afterPut, canDrop, afterDrop, fitting, empty, made, Sound}
+use Rattle.queues.specs.View.{RowsView, changed, withRow, canPut, afterPut, canDrop, afterDrop, mostRows, mostPlaces, fitting, emptyRows, madeRows}
 use Rattle.queues.specs.Places.{entriesAt, entriesOf, placesIn, viewIn, Taken, NotTaken}
 use Rattle.queues.specs.declared.table.Table.{Table}
 use Rattle.queues.proofs.Tables.{served-few, row-missing, waiting-few, same-views, same-changed, changed-here, changed-other, places-in}
@@ -167,12 +166,12 @@ module _ {X : Type 0} (xs : List X) (n : ℕ) (en : n ≡ length xs) (t : Table)
         (λ none. start ∙ ap (entriesOf xs) (cond-false _ _ _ none) ∙ sym (view-is xs t refl) ∙ sym (cond-false _ _ _ (sym can-drop-view ∙ none)))
         (cases-bool (canDrop v row))
 
-empty-view : {X : Type 0} (xs : List X) (rows places : ℕ) → entriesOf xs (empty rows places) ≡ empty rows places
+empty-view : {X : Type 0} (xs : List X) (rows places : ℕ) → entriesOf xs (emptyRows rows places) ≡ emptyRows rows places
 unfolding entriesAt
 empty-view xs rows places = refl
 
 -- a table that was just made
-pub made-view : {X : Type 0} (xs : List X) (n : ℕ) → n ≡ length xs → (t : Table) (rows places : ℕ) → placesIn n t ≡ made n rows places → viewIn xs t ≡ made n rows places
+pub made-view : {X : Type 0} (xs : List X) (n : ℕ) → n ≡ length xs → (t : Table) (rows places : ℕ) → placesIn n t ≡ madeRows n rows places → viewIn xs t ≡ madeRows n rows places
 made-view xs n en t rows places e =
     view-is xs n en t 0 xs t refl
     ∙ ap (entriesOf xs) e
@@ -180,6 +179,13 @@ made-view xs n en t rows places e =
     (λ fits. ap (entriesOf xs) (cond-true _ _ _ fits) ∙ empty-view xs rows places ∙ sym (cond-true _ _ _ fits))
     (λ tight. ap (entriesOf xs) (cond-false _ _ _ tight) ∙ empty-view xs 0 0 ∙ sym (cond-false _ _ _ tight))
     (cases-bool (fitting n rows places))
+
+-- what holds of all queues
+pub record Sound {X : Type 0} (v : RowsView X) : Type 0 where
+  pub few : v .rows ≤ mostRows
+  pub narrow : v .places ≤ mostPlaces
+  pub fits : (r : ℕ) → length (v .row r) ≤ v .places
+  pub missing : (r : ℕ) → v .rows ≤ r → v .row r ≡ []
 
 pub view-sound : {X : Type 0} (xs : List X) (t : Table) → Sound (viewIn xs t)
 unfolding entriesAt

@@ -1,20 +1,19 @@
 -- What a table's rows are, before and after its calls. Assumes nothing.
 use mathlib.Core.Path.{_≡_, refl, sym, ap, subst, _∙_}
 use mathlib.Core.Logic.{_≢_, ⊎-elim}
-use mathlib.Core.Bool.{Bool, true, false, cond, _&&_}
+use mathlib.Core.Bool.{Bool, true, false, cond}
 use mathlib.Core.List.{List, [], _∷_, _++_}
 use Prim.Native.Nat.{ℕ, _+_, _-_, _*_, _%_, _≤_, _<_}
 use native.Mathlib.Nat.{mod-eq-of-lt, mod-lt}
 use native.Mathlib.Omega.{arith}
 use lib.Dec.{eqb, leb, ltb}
-use lib.ListN.{length, drop, getD, set, replicate}
+use lib.ListN.{length, drop, set, replicate}
 use Rattle.std.specs.shelf.Lists.{All}
 use Rattle.std.specs.shelf.Maps.{nth}
-use Rattle.std.specs.declared.option.Option.{Option}
 use Rattle.std.specs.declared.option.Option.the-variants.{Some, None}
 use Rattle.std.proofs.shelf.Lists.{getD-set-same, getD-set-other, getD-replicate, getD-past, length-replicate, nil-from-length}
 use Rattle.std.proofs.shelf.Tests.{cond-true, cond-false, cond-both, lt-ltb, le-ltb, ltb-true, ltb-false, leb-true, le-leb, eq-eqb, ne-eqb, cases-bool, cases-eq, cases-lt, and-from, and-right}
-use Rattle.queues.specs.View.{RowsView, changed, withRow, canPut, afterPut, canDrop, afterDrop, mostRows, empty}
+use Rattle.queues.specs.View.{RowsView, changed, withRow, canPut, canDrop, afterDrop, mostRows, emptyRows}
 use Rattle.queues.specs.Positions.{nothing, positionOf, nextColumn, oldestColumn, Within}
 use Rattle.queues.specs.Places.{served, positionIn, placesFrom, placesAt, rowPlaces, placesOver, placesIn, Taken, NotTaken}
 use Rattle.queues.specs.declared.position.Position.{Position}
@@ -180,10 +179,10 @@ fresh-within places p e row =
     let is = ap (λ q. positionOf (replicate mostRows q) row) e ∙ fresh-position row in
     (omega (arith, ap (λ (q : Position). q .oldest) is), omega (arith, ap (λ (q : Position). q .waiting) is))
 
-pub fresh-places : (entries rows places : ℕ) (p : Position) → p ≡ nothing → rows * places ≤ entries → placesOver entries rows places (replicate mostRows p) ≡ empty rows places
+pub fresh-places : (entries rows places : ℕ) (p : Position) → p ≡ nothing → rows * places ≤ entries → placesOver entries rows places (replicate mostRows p) ≡ emptyRows rows places
 unfolding rowPlaces
 fresh-places entries rows places p e enough =
-    same-views (placesOver entries rows places (replicate mostRows p)) (empty rows places) (cond-true _ _ _ (le-leb _ _ enough)) refl
+    same-views (placesOver entries rows places (replicate mostRows p)) (emptyRows rows places) (cond-true _ _ _ (le-leb _ _ enough)) refl
     (λ row. ap (placesAt places row) (either (ltb row (served entries rows places)) _ (ap (λ q. positionOf (replicate mostRows q) row) e ∙ fresh-position row)))
   where
     either : (test : Bool) (q : Position) → q ≡ nothing → cond test q nothing ≡ nothing

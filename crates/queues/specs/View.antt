@@ -1,8 +1,7 @@
 -- What queues mean: rows in which entries wait, and what the calls do to them. Assumes nothing.
 use mathlib.Core.Bool.{Bool, cond, _&&_}
 use mathlib.Core.List.{List, [], _∷_, _++_}
-use mathlib.Core.Path.{_≡_}
-use Prim.Native.Nat.{ℕ, _*_, _≤_}
+use Prim.Native.Nat.{ℕ, _*_}
 use lib.Dec.{eqb, leb, ltb}
 use lib.ListN.{length, drop}
 use Rattle.std.specs.declared.result.Result.{Result}
@@ -52,16 +51,9 @@ mostPlaces = 16
 abbrev pub fitting : ℕ → ℕ → ℕ → Bool
 fitting entries rows places = leb rows mostRows && (leb places mostPlaces && leb (rows * places) entries)
 
-abbrev pub empty : {X : Type 0} → ℕ → ℕ → RowsView X
-empty rows places = record { rows = rows; places = places; row = λ _. [] }
+abbrev pub emptyRows : {X : Type 0} → ℕ → ℕ → RowsView X
+emptyRows rows places = record { rows = rows; places = places; row = λ _. [] }
 
 -- queues that were just made: nothing waits, and there is no row where the sizes do not fit
-abbrev pub made : {X : Type 0} → ℕ → ℕ → ℕ → RowsView X
-made entries rows places = cond (fitting entries rows places) (empty rows places) (empty 0 0)
-
--- what holds of all queues
-pub record Sound {X : Type 0} (v : RowsView X) : Type 0 where
-  pub few : v .rows ≤ mostRows
-  pub narrow : v .places ≤ mostPlaces
-  pub fits : (r : ℕ) → length (v .row r) ≤ v .places
-  pub missing : (r : ℕ) → v .rows ≤ r → v .row r ≡ []
+abbrev pub madeRows : {X : Type 0} → ℕ → ℕ → ℕ → RowsView X
+madeRows entries rows places = cond (fitting entries rows places) (emptyRows rows places) (emptyRows 0 0)

@@ -1,8 +1,8 @@
 ghost use mathlib.Core.Path.{_≡_};
-ghost use Prim.Native.Nat.{ℕ, _<_};
+ghost use Prim.Native.Nat.{_<_};
 ghost use lib.ListN.{length, getD, set};
 ghost use Rattle.std.specs.shelf.Maps.{nth};
-ghost use Rattle.queues.specs.View.{canPut, afterPut, canDrop, afterDrop, grantedIf, made};
+ghost use Rattle.queues.specs.View.{canPut, afterPut, canDrop, afterDrop, grantedIf, madeRows};
 ghost use Rattle.queues.specs.Places.{viewOf};
 use crate::denied::Denied;
 use crate::table::Table;
@@ -17,7 +17,7 @@ pub struct Queues<'a, T> {
 impl<'a, T: Copy> Queues<'a, T> {
     // Queues in which nothing waits, whatever the entries were; they have no row where the sizes do not fit.
     pub fn new(entries: &'a mut [T], rows: usize, places: usize) -> Self
-        ensures { λ r. ⌜ viewOf r ≡ made (length (now (entries .entry))) rows places ⌝ }
+        ensures { λ r. ⌜ viewOf r ≡ madeRows (length (now (entries .entry))) rows places ⌝ }
     {
         let table = Table::new(entries.len(), rows, places);
         Queues { entries, table }

@@ -1,6 +1,5 @@
 ghost use mathlib.Core.Path.{_≡_};
-ghost use mathlib.Core.Bool.{Bool};
-ghost use Prim.Native.Nat.{ℕ, _-_, _*_, _%_, _^_, _<_};
+ghost use Prim.Native.Nat.{_-_, _%_, _^_, _<_};
 ghost use lib.Bits.{bitAnd, bitOr};
 ghost use lib.Count.{ones};
 ghost use Rattle.registers.specs.Sets.{stationLimit};

@@ -1,8 +1,8 @@
 ghost use mathlib.Core.Path.{_≡_};
-ghost use Prim.Native.Nat.{ℕ, _+_, _-_, _*_, _%_, _<_, _≤_};
+ghost use Prim.Native.Nat.{ℕ, _+_, _-_, _*_, _<_, _≤_};
 ghost use lib.ListN.{length};
 ghost use Rattle.std.specs.shelf.Maps.{nth};
-ghost use Rattle.queues.specs.View.{mostRows, mostPlaces, canDrop, afterDrop, grantedIf, empty, made};
+ghost use Rattle.queues.specs.View.{mostRows, mostPlaces, canDrop, afterDrop, grantedIf, emptyRows, madeRows};
 ghost use Rattle.queues.specs.Places.{positionIn, placesIn, Taking};
 use super::MOST_PLACES;
 use super::MOST_ROWS;
@@ -13,7 +13,7 @@ use crate::position::Position;
 impl Table {
     // A table for so many entries, in which nothing waits; it has no row where the sizes do not fit.
     pub fn new(entries: usize, rows: usize, places: usize) -> Table
-        ensures { λ r. ⌜ placesIn entries r ≡ made entries rows places ⌝ }
+        ensures { λ r. ⌜ placesIn entries r ≡ madeRows entries rows places ⌝ }
     {
         if rows > MOST_ROWS || places > MOST_PLACES || rows * places > entries {
             return Table::empty(0, 0);
@@ -24,7 +24,7 @@ impl Table {
     // A table in which nothing waits.
     fn empty(rows: usize, places: usize) -> Table
         requires { ⌜ rows ≤ mostRows ⌝ ∗ ⌜ places ≤ mostPlaces ⌝ }
-        ensures { λ r. ⌜ ((entries : ℕ) → rows * places ≤ entries → placesIn entries r ≡ empty rows places) ⌝ }
+        ensures { λ r. ⌜ ((entries : ℕ) → rows * places ≤ entries → placesIn entries r ≡ emptyRows rows places) ⌝ }
     {
         Table {
             rows,

@@ -4,7 +4,6 @@ use Prim.Native.Nat.{_+_}
 use native.Mathlib.Omega.{arith}
 use Rattle.registers.specs.Sets.{howMany}
 use Rattle.registers.specs.Packed.{inList}
-use Rattle.registers.specs.declared.packed.PackedRegister.{PackedRegister}
 use Rattle.registers.proofs.Listed.{longer}
 use Rattle.registers.proofs.packed.with_new.Needs as need
 

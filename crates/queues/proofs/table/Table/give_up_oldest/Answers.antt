@@ -1,4 +1,4 @@
-use mathlib.Core.Path.{sym, ap}
+use mathlib.Core.Path.{ap}
 use native.Mathlib.Omega.{arith}
 use Rattle.queues.specs.View.{grantedIf}
 use Rattle.queues.specs.declared.position.Position.{Position}

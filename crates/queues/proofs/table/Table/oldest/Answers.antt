@@ -1,4 +1,4 @@
-use mathlib.Core.Path.{sym, ap, _∙_}
+use mathlib.Core.Path.{ap, _∙_}
 use Rattle.queues.specs.Positions.{oldestColumn}
 use Rattle.queues.proofs.Tables.{oldest-missing, oldest-is}
 use Rattle.queues.proofs.table.Table.oldest.Needs as need

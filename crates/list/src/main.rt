@@ -1,11 +1,9 @@
 // `list counts` or `list answers`: reads a script from standard input and prints its listing.
 use listing::kinds::ScriptKind;
+use script::field::enough_bytes;
 use std::env;
 use std::error::AnyError;
 use std::io::Read;
-
-// One byte more than a script may have, so that a longer one is told from it.
-const ENOUGH: u64 = 65537;
 
 const USAGE: &str = "call it as 'list counts' or 'list answers', with the script on standard input";
 
@@ -21,7 +19,7 @@ fn run(rt: &LibcRuntime) -> Result<(), AnyError> {
         return Ok(());
     };
     let mut script = Vec::new(heap);
-    rt.stdin().take(ENOUGH).read_to_end(&mut script)?;
+    rt.stdin().take(enough_bytes()).read_to_end(&mut script)?;
     let text = kind.list(heap, script.as_slice())?;
     rt.print(text.as_str())?;
     Ok(())

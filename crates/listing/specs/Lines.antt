@@ -12,6 +12,7 @@ use Rattle.script.specs.declared.fault.Fault.{Fault}
 use Rattle.script.specs.declared.fault.FaultKind.the-variants.{TooLong}
 use Rattle.script.specs.declared.record.Record.{Record}
 use Rattle.script.specs.Faults.{faultNumbers, faultWords}
+use Rattle.script.specs.Fields.{longest}
 use Rattle.script.specs.Records.{Piece, recordAs, decoded, Outcome, done, entry, faulty, Next}
 use Rattle.values.specs.Answer.{answerReads}
 use Rattle.values.specs.Count.{countReads}
@@ -48,8 +49,8 @@ module _ {V : Type 0} (width : ℕ) (reads : List ℕ → Option V) (said : V �
 
   -- the listing of a script: a line for each record, counted from 1, and for the fault that ends it; a script too long has one line, numbered 0
   pub data Listing : List ℕ → Type 0 where
-    listed : (text : List ℕ) → length script ≤ 65536 → Lines 1 0 text → Listing text
-    too-long : (fault : Fault) → 65536 < length script → fault ≡ record { kind = TooLong; at = 0 } → Listing (faultLine 0 fault)
+    listed : (text : List ℕ) → length script ≤ longest → Lines 1 0 text → Listing text
+    too-long : (fault : Fault) → longest < length script → fault ≡ record { kind = TooLong; at = 0 } → Listing (faultLine 0 fault)
 
 -- the listing of a script whose values are of this kind
 abbrev pub ListingAs : ScriptKind → List ℕ → List ℕ → Type 0

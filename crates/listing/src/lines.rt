@@ -73,7 +73,8 @@ fn in_words<V: Listed>(decoded: Record<V>) -> Record<ListedValue>
     }
 }
 
-// The listing of a script of values of the kind `V`.
+// The listing of a script of values of the kind `V`. Want of memory is the one error, and no contract can say
+// when it comes.
 pub fn list<V: Listed>(heap: Global, script: &[u8]) -> Result<String, AllocError>
     ensures { λ r. ⌜ made r (λ text. Listing (V·Value .width) (V·Value .reads) said (now (script .entry)) (string-bytes text)) ⌝ }
 {

@@ -15,10 +15,14 @@ use Rattle.script.specs.declared.fault.FaultKind.the-variants.{TooLong, Header
 use Rattle.script.specs.declared.field.Field.{Field}
 use Rattle.script.specs.declared.field.Reader.{Reader}
 
+-- how many bytes a script has at the most
+abbrev pub longest : ℕ
+longest = 65536
+
 -- a script is short enough, or it is refused with the place 0
 abbrev pub Opens : List ℕ → Result Reader Fault → Type 0
-Opens script (Ok reader) = (length script ≤ 65536) × (now (reader .script) ≡ script) × (reader .at ≡ 0)
-Opens script (Err fault) = (65536 < length script) × (fault ≡ record { kind = TooLong; at = 0 })
+Opens script (Ok reader) = (length script ≤ longest) × (now (reader .script) ≡ script) × (reader .at ≡ 0)
+Opens script (Err fault) = (longest < length script) × (fault ≡ record { kind = TooLong; at = 0 })
 
 pub data Found : Type 0 where
   end : Found

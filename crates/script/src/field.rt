@@ -1,7 +1,7 @@
 ghost use mathlib.Core.Path.{_≡_};
 ghost use Prim.Native.Nat.{_+_};
 ghost use lib.ListN.{drop};
-ghost use Rattle.script.specs.Fields.{Opens, fieldFound, Front, after};
+ghost use Rattle.script.specs.Fields.{longest, Opens, fieldFound, Front, after};
 use crate::fault::Fault;
 use crate::fault::FaultKind;
 use messages::field::split_field;
@@ -25,6 +25,14 @@ const LONGEST: usize = 65536;
 
 // The bytes of a header: a tag and a length.
 const HEADER: usize = 3;
+
+// How many bytes of an input to read at the most: one more than a script may have, so that a longer one is
+// told from it.
+pub fn enough_bytes() -> u64
+    ensures { λ r. ⌜ r ≡ longest + 1 ⌝ }
+{
+    LONGEST as u64 + 1
+}
 
 // The field at the front of what is left of a script from the byte `at` on, or nothing where nothing is left.
 fn front<'a>(left: &'a [u8], at: usize) -> Result<Option<Field<'a>>, Fault>

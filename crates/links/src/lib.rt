@@ -1,0 +1,9 @@
+// Links between a home and its stations: three lanes of waiting messages for each station. `lane::Links` is the trait;
+// `record::record_links` makes links over a lent slice of messages. Every call says by one equation of views what changed
+// and what did not: a send is denied exactly at a station that is not served or a full lane, a drop exactly where nothing
+// waits, a denial or a question changes nothing, and a call on one lane changes no other.
+// Definitions to believe: specs/View.antt; where messages lie: specs/Lanes.antt. Proofs: proofs/.
+pub mod forward;
+pub mod lane;
+pub mod record;
+mod rows;

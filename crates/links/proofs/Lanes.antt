@@ -104,7 +104,7 @@ module _ {X : Type 0} (v : RowsView X) (lane : Lane) (s : ℕ) where
       (cases-bool (someWait (lanesOf v) lane s))
 
   module _ (rows r : ℕ) (er : rows ≡ v .rows) (e : r ≡ rowOf rows lane s) where
-    row-is : r ≡ rowOf (v .rows) lane s
+    pub row-is : r ≡ rowOf (v .rows) lane s
     row-is = e ∙ ap (λ n. rowOf n lane s) er
 
     pub can-send : canPut v r ≡ hasSpace (lanesOf v) lane s

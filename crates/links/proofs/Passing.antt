@@ -50,7 +50,7 @@ module _ {X : Type 0} (v : LaneView X) (from to : Lane) (s : ℕ) where
   unfolding changed
   still-some list x some =
       ⊎-elim
-      (λ same. ap (λ (l : List X). ltb 0 (length l)) (cond-true _ _ _ same) ∙ lt-ltb 0 (length (list ++ x ∷ [])) (simp length-append (omega arith)))
+      (λ (same : (sameLane from to && eqb s s) ≡ true). ap (λ (l : List X). ltb 0 (length l)) (cond-true _ _ _ same) ∙ lt-ltb 0 (length (list ++ x ∷ [])) (simp length-append (omega arith)))
       (λ apart. ap (λ (l : List X). ltb 0 (length l)) (cond-false _ _ _ apart) ∙ some)
       (cases-bool (sameLane from to && eqb s s))
 

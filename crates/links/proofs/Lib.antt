@@ -1,0 +1,5 @@
+pub mod Lanes
+pub mod Passing
+pub mod Fronts
+pub mod Slots
+pub mod Tabled

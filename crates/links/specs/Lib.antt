@@ -1,0 +1,4 @@
+pub mod View
+pub mod Lanes
+pub mod Sound
+pub mod Slots

@@ -9,7 +9,8 @@ use lib.Dec.{eqb, leb, ltb}
 use lib.ListN.{length, drop}
 use Rattle.std.proofs.shelf.Tests.{cond-true, cond-false, cases-bool, cases-lt, and-parts, and-from, eqb-true, eq-eqb, ne-eqb, lt-ltb, le-ltb, ltb-true}
 use Rattle.std.proofs.shelf.Ways.{tells}
-use Rattle.queues.specs.View.{RowsView, withRow, canPut, afterPut, canDrop, afterDrop, Sound as SoundRows, changed as changedRows, made as madeRows, empty as emptyRows, fitting as fittingRows}
+use Rattle.queues.specs.View.{RowsView, withRow, canPut, afterPut, canDrop, afterDrop, changed as changedRows, madeRows, emptyRows, fitting as fittingRows}
+use Rattle.queues.proofs.Entries.{Sound as SoundRows}
 use Rattle.links.specs.declared.lane.Lane.{Lane}
 use Rattle.links.specs.declared.lane.Lane.the-variants.{Request, Reply, Down}
 use Rattle.links.specs.View.{LaneView, laneNumber, sameLane, changed, withLane, hasSpace, sent, someWait, dropped, allowed, fitting, empty, made, Sound}

@@ -4,10 +4,10 @@ use mathlib.Core.List.{List}
 use Prim.Native.Nat.{ℕ, _/_, _≤_}
 use native.Mathlib.Omega.{arith}
 use Rattle.std.proofs.shelf.Tests.{cond-false, le-ltb}
-use Rattle.queues.specs.View.{RowsView, Sound as SoundRows}
+use Rattle.queues.specs.View.{RowsView}
 use Rattle.queues.specs.Places.{viewIn}
 use Rattle.queues.specs.declared.table.Table.{Table}
-use Rattle.queues.proofs.Entries.{view-sound}
+use Rattle.queues.proofs.Entries.{Sound as SoundRows, view-sound}
 use Rattle.links.specs.View.{Sound}
 use Rattle.links.specs.Lanes.{rowOf, lanesOf}
 

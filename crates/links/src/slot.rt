@@ -3,15 +3,13 @@ ghost use Prim.Native.Nat.{ℕ, _/_, _<_};
 ghost use lib.ListN.{length, getD, set};
 ghost use Rattle.messages.specs.Bytes.{maxSize};
 ghost use Rattle.links.specs.Slots.{frontMessage, slots};
+use messages::codec::PLAIN_SIZE;
 use messages::codec::max_size;
 use messages::codec::read;
 use messages::codec::write;
 use messages::message::Kind;
 use messages::message::Message;
 use values::kind::Value;
-
-// How many bytes of its slot a message without a value fills.
-const PLAIN_SIZE: usize = 9;
 
 // How many slots so many bytes have.
 pub(crate) fn slot_count<V: Value>(size: usize) -> usize

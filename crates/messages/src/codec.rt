@@ -25,7 +25,7 @@ const KIND_SIZE: u8 = 1;
 const PAGE_SIZE: u8 = 2;
 
 // How many bytes a message without a value has.
-const PLAIN_SIZE: usize = 9;
+pub const PLAIN_SIZE: usize = 9;
 
 // How many bytes of a message stand before its value.
 const HEADER_SIZE: usize = 12;

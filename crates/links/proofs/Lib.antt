@@ -3,3 +3,4 @@ pub mod Passing
 pub mod Fronts
 pub mod Slots
 pub mod Tabled
+pub mod InOrder

@@ -2,3 +2,4 @@ pub mod View
 pub mod Lanes
 pub mod Sound
 pub mod Slots
+pub mod Order

@@ -8,6 +8,7 @@
 pub mod bytes;
 pub mod forward;
 pub mod lane;
+pub mod order;
 pub mod record;
 mod rows;
 mod slot;

@@ -1,0 +1,3 @@
+// Tests of the links, of both kinds by the same checks.
+#[cfg(test)]
+mod tests;

@@ -1,12 +1,11 @@
 -- The message at the front of a slot. Assumes nothing.
 use mathlib.Core.Path.{_≡_, refl, sym, ap, _∙_}
 use mathlib.Core.Logic.{⊎-elim}
-use mathlib.Core.Bool.{Bool, true, false, cond, _&&_}
+use mathlib.Core.Bool.{true}
 use mathlib.Core.List.{List, [], _∷_, _++_, append-nil}
-use Prim.Native.Nat.{ℕ, _+_, _*_, _/_, _%_, _≤_, _<_}
+use Prim.Native.Nat.{ℕ, _+_, _*_, _/_, _%_}
 use native.Mathlib.Omega.{arith}
-use lib.Dec.{eqb}
-use lib.ListN.{length, take, drop, getD}
+use lib.ListN.{length, take, drop}
 use Rattle.std.specs.declared.option.Option.{Option}
 use Rattle.std.specs.declared.option.Option.the-variants.{Some, None}
 use Rattle.std.proofs.shelf.Tests.{cond-true, cond-false, cases-bool, and-parts, and-from, eqb-true, eq-eqb}
@@ -38,21 +37,29 @@ module _ {V : Type 0} (bytes : V → List ℕ) (reads : List ℕ → Option V) (
   abbrev slot : ℕ → Kind V → List ℕ → List ℕ
   slot page kind rest = messageBytes bytes (messageOf page kind) ++ rest
 
-  plain : (page : ℕ) (kind : Kind V) (rest : List ℕ) → begins (messageBytes bytes (messageOf page kind)) (slot page kind rest) ≡ true
-  plain page kind rest = begins-self (messageBytes bytes (messageOf page kind)) rest
+  -- the test at the message itself
+  itself : (page : ℕ) (kind : Kind V) (rest : List ℕ) → begins (messageBytes bytes (messageOf page kind)) (slot page kind rest) ≡ true
+  itself page kind rest = begins-self (messageBytes bytes (messageOf page kind)) rest
+
+  abbrev choice : ℕ → Kind V → List ℕ → Option V → Message V
+  choice page kind rest o = among bytes reads width page (slot page kind rest) (plainKinds ++ valueKinds o)
+
+  paged : (page : ℕ) (kind : Kind V) (rest : List ℕ) → frontMessage bytes reads width (slot page kind rest) ≡ choice page kind rest (reads (take width (drop 12 (slot page kind rest))))
+  unfolding frontMessage
+  paged page kind rest = ap (λ p. among bytes reads width p (slot page kind rest) (plainKinds ++ valueKinds (reads (take width (drop 12 (slot page kind rest)))))) (whole page)
 
   kind-front : (page : ℕ) (kind : Kind V) (rest : List ℕ) → frontMessage bytes reads width (slot page kind rest) ≡ messageOf page kind
-  unfolding frontMessage among begins
-  kind-front page ShReq rest = (λ i. among bytes reads width (whole page i) (slot page ShReq rest) (plainKinds ++ valueKinds (reads (take width (drop 12 (slot page ShReq rest)))))) ∙ cond-true _ _ _ (plain page ShReq rest)
-  kind-front page ExReq rest = (λ i. among bytes reads width (whole page i) (slot page ExReq rest) (plainKinds ++ valueKinds (reads (take width (drop 12 (slot page ExReq rest)))))) ∙ cond-true _ _ _ (plain page ExReq rest)
-  kind-front page WbReq rest = (λ i. among bytes reads width (whole page i) (slot page WbReq rest) (plainKinds ++ valueKinds (reads (take width (drop 12 (slot page WbReq rest)))))) ∙ cond-true _ _ _ (plain page WbReq rest)
-  kind-front page FlushReq rest = (λ i. among bytes reads width (whole page i) (slot page FlushReq rest) (plainKinds ++ valueKinds (reads (take width (drop 12 (slot page FlushReq rest)))))) ∙ cond-true _ _ _ (plain page FlushReq rest)
-  kind-front page InvReq rest = (λ i. among bytes reads width (whole page i) (slot page InvReq rest) (plainKinds ++ valueKinds (reads (take width (drop 12 (slot page InvReq rest)))))) ∙ cond-true _ _ _ (plain page InvReq rest)
-  kind-front page InvRep rest = (λ i. among bytes reads width (whole page i) (slot page InvRep rest) (plainKinds ++ valueKinds (reads (take width (drop 12 (slot page InvRep rest)))))) ∙ cond-true _ _ _ (plain page InvRep rest)
-  kind-front page (ShRep v) rest = (λ i. among bytes reads width (whole page i) (slot page (ShRep v) rest) (plainKinds ++ valueKinds (value-at v rest i))) ∙ cond-true _ _ _ (plain page (ShRep v) rest)
-  kind-front page (ExRep v) rest = (λ i. among bytes reads width (whole page i) (slot page (ExRep v) rest) (plainKinds ++ valueKinds (value-at v rest i))) ∙ cond-true _ _ _ (plain page (ExRep v) rest)
-  kind-front page (WbRep v) rest = (λ i. among bytes reads width (whole page i) (slot page (WbRep v) rest) (plainKinds ++ valueKinds (value-at v rest i))) ∙ cond-true _ _ _ (plain page (WbRep v) rest)
-  kind-front page (FlushRep v) rest = (λ i. among bytes reads width (whole page i) (slot page (FlushRep v) rest) (plainKinds ++ valueKinds (value-at v rest i))) ∙ cond-true _ _ _ (plain page (FlushRep v) rest)
+  unfolding among begins
+  kind-front page ShReq rest = paged page ShReq rest ∙ cond-true _ _ _ (itself page ShReq rest)
+  kind-front page ExReq rest = paged page ExReq rest ∙ cond-true _ _ _ (itself page ExReq rest)
+  kind-front page WbReq rest = paged page WbReq rest ∙ cond-true _ _ _ (itself page WbReq rest)
+  kind-front page FlushReq rest = paged page FlushReq rest ∙ cond-true _ _ _ (itself page FlushReq rest)
+  kind-front page InvReq rest = paged page InvReq rest ∙ cond-true _ _ _ (itself page InvReq rest)
+  kind-front page InvRep rest = paged page InvRep rest ∙ cond-true _ _ _ (itself page InvRep rest)
+  kind-front page (ShRep v) rest = paged page (ShRep v) rest ∙ ap (choice page (ShRep v) rest) (value-at v rest) ∙ cond-true _ _ _ (itself page (ShRep v) rest)
+  kind-front page (ExRep v) rest = paged page (ExRep v) rest ∙ ap (choice page (ExRep v) rest) (value-at v rest) ∙ cond-true _ _ _ (itself page (ExRep v) rest)
+  kind-front page (WbRep v) rest = paged page (WbRep v) rest ∙ ap (choice page (WbRep v) rest) (value-at v rest) ∙ cond-true _ _ _ (itself page (WbRep v) rest)
+  kind-front page (FlushRep v) rest = paged page (FlushRep v) rest ∙ ap (choice page (FlushRep v) rest) (value-at v rest) ∙ cond-true _ _ _ (itself page (FlushRep v) rest)
 
   -- a slot that begins with the bytes of a message has that message at its front
   pub front-is : (bs : List ℕ) (m : Message V) (rest : List ℕ) → bs ≡ messageBytes bytes m ++ rest → frontMessage bytes reads width bs ≡ m

@@ -1,19 +1,19 @@
 -- What the calls of queues do to the lanes that their rows are. Assumes nothing.
-use mathlib.Core.Path.{_≡_, refl, sym, ap, subst, _∙_}
+use mathlib.Core.Path.{_≡_, refl, sym, ap, _∙_}
 use mathlib.Core.Logic.{⊎-elim}
 use mathlib.Core.Bool.{Bool, true, false, cond, _&&_}
-use mathlib.Core.List.{List, [], _∷_, _++_}
+use mathlib.Core.List.{List}
 use Prim.Native.Nat.{ℕ, _+_, _*_, _/_, _≤_, _<_}
 use native.Mathlib.Omega.{arith}
 use lib.Dec.{eqb, leb, ltb}
-use lib.ListN.{length, drop}
+use lib.ListN.{length}
 use Rattle.std.proofs.shelf.Tests.{cond-true, cond-false, cases-bool, cases-lt, and-parts, and-from, eqb-true, eq-eqb, ne-eqb, lt-ltb, le-ltb, ltb-true}
 use Rattle.std.proofs.shelf.Ways.{tells}
 use Rattle.queues.specs.View.{RowsView, withRow, canPut, afterPut, canDrop, afterDrop, changed as changedRows, madeRows, emptyRows, fitting as fittingRows}
 use Rattle.queues.proofs.Entries.{Sound as SoundRows}
 use Rattle.links.specs.declared.lane.Lane.{Lane}
 use Rattle.links.specs.declared.lane.Lane.the-variants.{Request, Reply, Down}
-use Rattle.links.specs.View.{LaneView, laneNumber, sameLane, changed, withLane, hasSpace, sent, someWait, dropped, allowed, fitting, empty, made, Sound}
+use Rattle.links.specs.View.{LaneView, laneNumber, sameLane, changed, withLane, hasSpace, sent, someWait, dropped, allowed, fitting, empty, made}
 use Rattle.links.specs.Lanes.{rowOf, lanesOf, sizesOf}
 use Rattle.links.specs.Sound.{sound-lanes}
 

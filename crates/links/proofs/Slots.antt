@@ -1,23 +1,21 @@
 -- The messages in the slots of a memory. Assumes nothing.
-use mathlib.Core.Path.{_≡_, refl, sym, ap, subst, _∙_}
+use mathlib.Core.Path.{_≡_, sym, ap, subst, _∙_}
 use mathlib.Core.Logic.{_≢_, ⊎-elim}
-use mathlib.Core.Bool.{Bool, true, false, cond}
-use mathlib.Core.List.{List, [], _∷_, _++_, map}
-use Prim.Native.Nat.{ℕ, _+_, _-_, _*_, _/_, _%_, _≤_, _<_}
+use mathlib.Core.List.{List}
+use Prim.Native.Nat.{ℕ, _+_, _-_, _*_, _/_, _≤_, _<_}
 use native.Mathlib.Omega.{arith}
 use lib.Dec.{leb}
 use lib.ListN.{length, take, drop, getD, set}
 use borrow.Rule.Slice.PartMut.{putMid}
-use Rattle.std.specs.Iters.{counting}
 use Rattle.std.specs.shelf.Lists.{between}
 use Rattle.std.specs.declared.option.Option.{Option}
-use Rattle.std.specs.declared.option.Option.the-variants.{Some, None}
+use Rattle.std.specs.declared.option.Option.the-variants.{Some}
 use Rattle.std.proofs.shelf.Tests.{cond-true, cases-bool, cases-eq, cases-lt, le-leb, leb-true, leb-false}
 use Rattle.std.proofs.shelf.Lists.{length-take, length-drop, length-append, same-lists, length-set, getD-set-same, getD-set-other}
 use Rattle.std.proofs.shelf.Parts.{between-is, between-putMid, take-putMid-below, drop-putMid}
 use Rattle.std.proofs.shelf.Counted.{length-map-counting, getD-map-counting}
 use Rattle.std.proofs.shelf.Bits.{div-add-mod', mul-le, le-div}
-use Rattle.values.specs.Writing.{fits, written}
+use Rattle.values.specs.Writing.{written}
 use Rattle.messages.specs.declared.message.Message.{Message}
 use Rattle.messages.specs.Bytes.{messageBytes, maxSize}
 use Rattle.messages.proofs.Trips.{round-trip}

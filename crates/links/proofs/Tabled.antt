@@ -1,13 +1,12 @@
 -- What the calls of a table do to the lanes of any list of messages. Assumes nothing.
-use mathlib.Core.Path.{_≡_, refl, sym, ap, _∙_}
+use mathlib.Core.Path.{_≡_, ap, _∙_}
 use mathlib.Core.Bool.{Bool, true, false}
 use mathlib.Core.List.{List}
 use Prim.Native.Nat.{ℕ}
 use lib.ListN.{length, getD, set}
 use Rattle.std.specs.shelf.Maps.{nth}
-use Rattle.std.specs.declared.option.Option.{Option}
 use Rattle.std.specs.declared.option.Option.the-variants.{Some, None}
-use Rattle.queues.specs.View.{RowsView, canDrop, afterDrop}
+use Rattle.queues.specs.View.{canDrop, afterDrop}
 use Rattle.queues.specs.Places.{placesIn, viewIn, Taken, NotTaken}
 use Rattle.queues.specs.declared.table.Table.{Table}
 use Rattle.queues.proofs.Entries.{rows-view, waiting-view, oldest-view, oldest-none, can-drop-view, put-view, denied-view, drop-view, view-sound}

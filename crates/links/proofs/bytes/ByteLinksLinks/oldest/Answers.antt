@@ -1,7 +1,6 @@
-use mathlib.Core.Path.{refl, _∙_}
+use mathlib.Core.Path.{_≡_, _∙_}
 use Rattle.queues.proofs.Entries.{oldest-inside}
 use mathlib.Core.List.{List}
-use mathlib.Core.Path.{_≡_}
 use Prim.Native.Nat.{ℕ, _/_}
 use lib.ListN.{length}
 use Rattle.messages.specs.declared.message.Message.{Message}

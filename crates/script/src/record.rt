@@ -1,6 +1,4 @@
 use protocol::firing::FiringKind;
-use protocol::firing::FiringKindDebug;
-use protocol::firing::FiringKindPartialEq;
 
 // A part of a script that holds the bytes of a value, and the byte where its field begins.
 #[derive(Clone, Copy)]

@@ -32,9 +32,6 @@ three s h = cc (drop-more s 0 0 (omega arith), drop-more s 1 0 (omega arith), dr
 pub page-then : (s rest : List ℕ) (p : ℕ) → 2 ≤ length s → p ≡ getD s 0 0 * 256 + getD s 1 0 → getD s 1 0 < 256 → rest ≡ drop 2 s → s ≡ word p ++ rest
 page-then s rest p h e small r = let a = two s h in let b = word-of p _ _ e small in cc
 
-pub page-only : (s : List ℕ) (p : ℕ) → length s ≡ 2 → p ≡ getD s 0 0 * 256 + getD s 1 0 → getD s 1 0 < 256 → s ≡ word p
-page-only s p h e small = page-then s [] p (omega arith) e small (sym (none-left s 2 (omega arith)))
-
 -- a station, a page, then the rest
 pub station-page-then : (s rest : List ℕ) (p : ℕ) → 3 ≤ length s → p ≡ getD s 1 0 * 256 + getD s 2 0 → getD s 2 0 < 256 → rest ≡ drop 3 s → s ≡ getD s 0 0 ∷ (word p ++ rest)
 station-page-then s rest p h e small r = let a = three s h in let b = word-of p _ _ e small in cc

@@ -4,6 +4,8 @@
 // A firing finds the rule's step first, which changes nothing, and then carries it out, which nothing denies.
 // The calls are private to this crate until the round has its states and the call that carries the whole promise.
 // Definitions to believe: specs/Memory.antt, the state that a memory means; specs/Calls.antt, what a call answers.
+#![tactic(auto)]
+
 mod carry;
 mod checked;
 mod close;

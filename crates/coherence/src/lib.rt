@@ -3,6 +3,8 @@
 // the values, the registers and the links are; it runs nothing.
 // Definitions to believe: specs/Refusals.antt, the numbers; specs/Questions.antt, what each call asks; specs/Histories.antt,
 // which histories lead to which state; specs/Promise.antt and specs/Sequential.antt, what is promised of them.
+#![tactic(auto)]
+
 pub mod call;
 pub mod event;
 pub mod phase;

@@ -5,6 +5,8 @@
 // nothing waits, a denial or a question changes nothing, and a call on one lane changes no other.
 // Definitions to believe: specs/View.antt; where messages lie: specs/Lanes.antt, specs/Slots.antt. Proofs: proofs/, and
 // specs/Sound.antt.
+#![tactic(auto)]
+
 pub mod bytes;
 pub mod forward;
 pub mod lane;

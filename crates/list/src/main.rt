@@ -1,4 +1,6 @@
 // `list counts` or `list answers`: reads a script from standard input and prints its listing.
+#![tactic(auto)]
+
 use listing::kinds::ScriptKind;
 use script::field::enough_bytes;
 use std::env;

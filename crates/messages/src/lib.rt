@@ -4,6 +4,8 @@
 // message's bytes, no byte string stops `read`, and no buffer is written past what a message needs.
 // Definitions to believe: specs/Bytes.antt, specs/Reading.antt, specs/RoundTrip.antt, specs/Examples.antt.
 // Proofs: proofs/.
+#![tactic(auto)]
+
 pub mod codec;
 pub mod field;
 pub mod message;

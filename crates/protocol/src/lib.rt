@@ -5,6 +5,8 @@
 // Definitions to believe: specs/Rules.antt, the rules; specs/Deeds.antt, what each deed is; specs/State.antt, the state of
 // a round and what a firing makes of it. specs/Machines.antt has the rules as functions, which theorems.rt proves to be
 // the rules.
+#![tactic(auto)]
+
 pub mod cell;
 pub mod deed;
 pub mod firing;

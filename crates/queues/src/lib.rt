@@ -3,6 +3,8 @@
 // equation of views what changed and what did not: a put is denied exactly at a full or missing row, a drop exactly where
 // nothing waits, a denial or a question changes nothing, and a call on one row changes no other.
 // Definitions to believe: specs/View.antt; where entries lie: specs/Places.antt, specs/Positions.antt. Proofs: proofs/.
+#![tactic(auto)]
+
 pub mod denied;
 mod position;
 pub mod queue;

@@ -35,7 +35,7 @@ pub trait Register: Copy {
 
 // A register that names that station alone; nobody where the number is no station's.
 pub fn only<R: Register>(station: usize) -> R
-    ensures { names result ≡ including nobody station }
+    ensures { R.names result ≡ including nobody station }
 {
     R::empty().add(station)
 }

@@ -4,6 +4,8 @@
 // say which record or which fault comes next, at which byte, and where the reader then stands.
 // Definitions to believe: specs/Fields.antt, specs/Records.antt, specs/Faults.antt; laws: specs/Readings.antt.
 // Proofs: proofs/.
+#![tactic(auto)]
+
 pub mod fault;
 pub mod field;
 pub mod record;

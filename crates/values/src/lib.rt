@@ -2,6 +2,8 @@
 // width; `count::Count` and `answer::Answer` are two kinds. Every kind owes, as laws of the trait, that
 // reading the bytes of a value gives that value and that bytes which read as a value are its bytes.
 // Definitions to believe: specs/Writing.antt, specs/Count.antt, specs/Answer.antt. Proofs: proofs/.
+#![tactic(auto)]
+
 pub mod answer;
 pub mod box_number;
 pub mod buffer;

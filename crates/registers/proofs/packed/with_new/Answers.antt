@@ -17,4 +17,4 @@ invariant-of-result c =
 
 pub returns : goal.returns
 returns c =
-    ap (in_list (c.args.register.count + 1)) c.with-first.ensures ∙ (longer c.args.register c.args.station c.requires.0 c.requires.1).names
+    ap (in_list (c.args.register.count + 1)) c.with_first.ensures ∙ (longer c.args.register c.args.station c.requires.0 c.requires.1).names

@@ -6,6 +6,6 @@ use Rattle.queues.proofs.queue.Queues.drop_oldest.Goals as goal
 pub returns : goal.returns
 returns g c =
     record {
-      answer = c.give-up-oldest.ensures.answer ∙ ap granted_if (can_drop_view c.args.self.now.entries.now _ refl c.args.self.now.table c.args.row);
-      after = drop_view c.args.self.now.entries.now _ refl c.args.self.now.table c.args.row c.give-up-oldest.new.self c.give-up-oldest.ensures.after;
+      answer = c.give_up_oldest.ensures.answer ∙ ap granted_if (can_drop_view c.args.self.now.entries.now _ refl c.args.self.now.table c.args.row);
+      after = drop_view c.args.self.now.entries.now _ refl c.args.self.now.table c.args.row c.give_up_oldest.new.self c.give_up_oldest.ensures.after;
     }

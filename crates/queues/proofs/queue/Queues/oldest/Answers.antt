@@ -7,8 +7,8 @@ returns-in-err-place g c =
     c.from-residual.ensures ∙ oldest_none c.args.self.now.entries.now _ refl c.args.self.now.table c.args.row c.in-err-place.ensures
 
 pub read-requires : goal.read-requires
-read-requires g c = oldest_inside c.args.self.now.entries.now _ refl c.args.self.now.table c.args.row c.in-ok-place.place c.in-ok-place.ensures
+read-requires g c = oldest_inside c.args.self.now.entries.now _ refl c.args.self.now.table c.args.row c.in_ok-place.place c.in_ok-place.ensures
 
 pub returns : goal.returns
 returns g c =
-    oldest_view c.args.self.now.entries.now _ refl c.args.self.now.table c.args.row c.in-ok-place.place c.read.result c.in-ok-place.ensures c.read.ensures
+    oldest_view c.args.self.now.entries.now _ refl c.args.self.now.table c.args.row c.in_ok-place.place c.read.result c.in_ok-place.ensures c.read.ensures

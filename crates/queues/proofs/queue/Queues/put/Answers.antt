@@ -12,5 +12,5 @@ returns-in-err-place g c =
 
 pub returns : goal.returns
 returns g c =
-    let p = put_view c.args.self.now.entries.now _ refl c.args.self.now.table c.args.row c.take-next.new.self c.in-ok-place.place c.args.newest c.write.new.entries c.write.ensures c.in-ok-place.ensures in
+    let p = put_view c.args.self.now.entries.now _ refl c.args.self.now.table c.args.row c.take_next.new.self c.in_ok-place.place c.args.newest c.write.new.entries c.write.ensures c.in_ok-place.ensures in
     record { answer = ap granted_if p.can; after = p.after_put_lem }

@@ -10,4 +10,4 @@ returns-in-err-column c =
 
 pub returns : goal.returns
 returns c =
-    oldest_is c.args.entries c.args.self.now c.args.row c.in-ok-column.column c.place.result (c.in-ok-column.ensures ∙ ap oldest_column c.position.ensures.is) c.place.ensures
+    oldest_is c.args.entries c.args.self.now c.args.row c.in_ok-column.column c.place.result (c.in_ok-column.ensures ∙ ap oldest_column c.position.ensures.is) c.place.ensures

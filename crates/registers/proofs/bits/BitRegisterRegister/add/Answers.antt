@@ -5,4 +5,4 @@ use Rattle.registers.proofs.bits.BitRegisterRegister.add.Goals as goal
 
 pub returns-then-station-lt-STATIONS : goal.returns-then-station-lt-STATIONS
 returns-then-station-lt-STATIONS c =
-    record { exact = ap in_bits c.set-bit.ensures ∙ bit_added c.args.self.bits c.args.station (omega arith) }
+    record { exact = ap in_bits c.set_bit.ensures ∙ bit_added c.args.self.bits c.args.station (omega arith) }

@@ -1,8 +1,8 @@
 -- What a packed list of four-bit numbers names as it is read and as it gets longer. Assumes nothing.
-use Rattle.std.proofs.Common.{◌≡◌, ℕ, zero, suc, ◌+◌, ◌*◌, ◌/◌, ◌%◌, ◌^◌, ◌<◌, ◌≤◌, Bool, false, cond, ◌||◌, eqb, sym, refl, ap, ◌∙◌, ⊎_elim, pow-suc, add-one, arith}
+use Rattle.std.proofs.Common.{◌≡◌, ℕ, ◌+◌, ◌*◌, ◌/◌, ◌%◌, ◌^◌, ◌<◌, ◌≤◌, Bool, false, cond, ◌||◌, eqb, sym, refl, ap, ◌∙◌, ⊎_elim, pow-suc, add-one, arith}
 use native.Mathlib.Nat.{pow-le-pow_right}
 use Rattle.std.proofs.lemmas.Bool.Decides.{nat_tests}
-use Rattle.std.proofs.lemmas.Bool.{or_from, or_left, eq-eqb, ne_eqb, cases_Bool, cond-true, cond-false}
+use Rattle.std.proofs.lemmas.Bool.{or_left, eq-eqb, ne_eqb, cases_Bool, cond-true, cond-false}
 use Rattle.registers.specs.Sets.{station_limit, nobody, including, without, how_many}
 use Rattle.registers.specs.Packed.{in_list}
 use Rattle.registers.specs.declared.packed.PackedRegister.{PackedRegister}
@@ -13,10 +13,6 @@ list_none n list e = ap (λ k. in_list k list) e
 
 pub list_step : (n m list k : ℕ) → n ≡ m + 1 → in_list n list k ≡ (eqb k (list % 16) || in_list m (list / 16) k)
 list_step n m list k e = ap (λ j. in_list j list k) (e ∙ add-one m)
-
-pub list_high : (n list k : ℕ) → station_limit ≤ k → in_list n list k ≡ false
-list_high zero list k h = refl
-list_high (suc n) list k h = or_from _ _ (ne_eqb k (list % 16) (λ e. omega arith)) (list_high n (list / 16) k h)
 
 at_longer : (n list s : ℕ) → s < station_limit → (k : ℕ) → in_list (n + 1) (list * 16 + s) k ≡ (eqb k s || in_list n list k)
 at_longer n list s h k =

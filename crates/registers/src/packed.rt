@@ -1,7 +1,7 @@
 ghost use Rattle.std.specs.Prelude.{◌≡◌, ◌+◌, ◌*◌, ◌/◌, ◌%◌, ◌^◌, ◌<◌, false, if◌then◌else◌, nat_eq};
 ghost use Rattle.registers.specs.Sets.{station_limit, including, how_many};
 ghost use Rattle.registers.specs.Packed.{in_list};
-ghost use Rattle.std.proofs.Common.{rules, arith};
+ghost use Rattle.registers.specs.PackedLemmas.{list_high};
 
 use crate::register::{Register, STATIONS};
 
@@ -17,7 +17,7 @@ pub struct PackedRegister {
 impl Register for PackedRegister {
     ghost names = { λ register. in_list register.count register.list };
 
-    ghost high = { first_of (Prim.search rules, Prim.grind (arith, Self.row.coded.inj)) };
+    ghost high = { λ register number high. list_high register.count register.list number high };
 
     fn empty() -> PackedRegister {
         PackedRegister { list: 0, count: 0 }

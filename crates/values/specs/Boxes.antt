@@ -1,5 +1,5 @@
 -- A box is its number. Assumes nothing.
-use Rattle.std.specs.Prelude.{◌≡◌, ℕ, ◌≤◌, Bool, true, false, T, Some, None, Option, nat_le, refl}
+use Rattle.std.specs.Prelude.{◌≡◌, ℕ, ◌≤◌, Bool, true, false, T, Some, nat_le, refl}
 use Rattle.std.proofs.Common.{ap, subst, leb→le, le→leb}
 use Rattle.std.proofs.Math.Bridge.{le_prop}
 use Rattle.values.specs.declared.box_number.BoxNumber.{BoxNumber}

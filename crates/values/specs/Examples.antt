@@ -1,9 +1,9 @@
 -- Examples of values in bytes, over the definitions that the contracts cite. Assumes nothing.
-use Rattle.std.specs.Prelude.{◌≡◌, List, [], ◌∷◌, Some, None}
+use Rattle.std.specs.Prelude.{◌≡◌, [], ◌∷◌, Some, None}
 use Rattle.std.specs.Option.{option_map}
 use Rattle.values.specs.declared.answer.Answer.TheVariants.{Written}
 use Rattle.values.specs.Count.{of_number, count_bytes, count_reads}
-use Rattle.values.specs.Answer.{number_of, answer_bytes, answer_reads}
+use Rattle.values.specs.Answer.{answer_bytes, answer_reads}
 
 abbrev pub Box99ReadsAnd100DoesNot : Type 0
 Box99ReadsAnd100DoesNot =

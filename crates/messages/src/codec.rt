@@ -29,15 +29,15 @@ const HEADER_SIZE: usize = 12;
 
 // How many bytes a message has at the most.
 pub fn max_size<V: Value>() -> usize
-    ensures { result ≡ max_size width }
+    ensures { result ≡ max_size V.width }
 {
     V::width() + HEADER_SIZE
 }
 
 // Writes the message's bytes at the front of `out` and says how many; a buffer too short is left as it was.
 pub fn write<V: Value>(message: &Message<V>, out: &mut [u8]) -> Result<usize, TooShort>
-    ensures answer { result ≡ answered (message_bytes bytes message.now) out.old }
-    ensures buffer { out.new ≡ written (message_bytes bytes message.now) out.old }
+    ensures answer { result ≡ answered (message_bytes V.bytes message.now) out.old }
+    ensures buffer { out.new ≡ written (message_bytes V.bytes message.now) out.old }
 {
     let header = header(message);
     match message.kind.value() {
@@ -48,7 +48,7 @@ pub fn write<V: Value>(message: &Message<V>, out: &mut [u8]) -> Result<usize, To
 
 // The bytes before the value of a message. One without a value has all but the last three.
 fn header<V: Value>(message: &Message<V>) -> [u8; HEADER_SIZE]
-    ensures { result ≡ kind_and_page (kind_number message.now.kind) message.now.page (value_tag ∷ word width) }
+    ensures { result ≡ kind_and_page (kind_number message.now.kind) message.now.page (value_tag ∷ word V.width) }
 {
     let number = message.kind.number();
     let [page_high, page_low] = two_bytes(message.page);
@@ -73,8 +73,8 @@ fn put_header_and_value<V: Value>(
     value: &V,
     out: &mut [u8],
 ) -> Result<usize, TooShort>
-    ensures answer { result ≡ answered (header.now ++ bytes value.now) out.old }
-    ensures buffer { out.new ≡ written (header.now ++ bytes value.now) out.old }
+    ensures answer { result ≡ answered (header.now ++ V.bytes value.now) out.old }
+    ensures buffer { out.new ≡ written (header.now ++ V.bytes value.now) out.old }
 {
     let start = header.len();
     if out.len() < start {
@@ -88,7 +88,7 @@ fn put_header_and_value<V: Value>(
 
 // The message whose bytes these are, if there is one.
 pub fn read<V: Value>(from: &[u8]) -> Option<Message<V>>
-    ensures { Reads (message_bytes bytes) from.now result }
+    ensures { Reads (message_bytes V.bytes) from.now result }
 {
     let (number, page, rest) = read_kind_and_page(from)?;
     let kind = Kind::from_parts(number, read_value(rest)?)?;
@@ -119,7 +119,7 @@ fn read_two_bytes(from: &[u8]) -> Option<u16>
 
 // The value in the last field of a message; a message that has no such field has no value.
 fn read_value<V: Value>(from: &[u8]) -> Option<Option<V>>
-    ensures { Reads (value_field bytes) from.now result }
+    ensures { Reads (value_field V.bytes) from.now result }
 {
     if from.is_empty() {
         return Some(None);

@@ -11,7 +11,7 @@ use values::kind::Value;
 
 // The theorem of writing and reading messages, for every message and all bytes.
 fn round_trip_holds<V: Value>()
-    ensures { RoundTripHolds bytes width }
+    ensures { RoundTripHolds V.bytes V.width }
 {}
 
 // Writes the message at the front of `out` and reads what was written, which is the message itself.
@@ -19,9 +19,9 @@ pub fn read_back<V: Value>(
     message: &Message<V>,
     out: &mut [u8],
 ) -> Result<Option<Message<V>>, TooShort>
-    ensures answer { result ≡ itself bytes message.now out.old }
-    ensures buffer { out.new ≡ written (message_bytes bytes message.now) out.old }
-    ensures theorem { RoundTripHolds bytes width }
+    ensures answer { result ≡ itself V.bytes message.now out.old }
+    ensures buffer { out.new ≡ written (message_bytes V.bytes message.now) out.old }
+    ensures theorem { RoundTripHolds V.bytes V.width }
 {
     round_trip_holds::<V>();
     let Ok(size) = write(message, out) else {

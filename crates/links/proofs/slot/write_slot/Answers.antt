@@ -4,22 +4,22 @@ use Rattle.links.proofs.slot.write_slot.Goals as goal
 
 pub overflow-mul-start : goal.overflow-mul-start
 overflow-mul-start g c =
-    let h : c.args.place * c.max-size-size.result + c.max-size-size.result ≤ length c.args.memory.now = slot_ends g.row.V-Value.bytes g.row.V-Value.reads g.row.V-Value.width c.args.memory.now _ _ c.max-size-size.ensures c.requires in
+    let h : c.args.place * c.max-size-size.result + c.max-size-size.result ≤ length c.args.memory.now = slot_ends g.V.Value.bytes g.V.Value.reads g.V.Value.width c.args.memory.now _ _ c.max-size-size.ensures c.requires in
     search rules
 
 pub overflow-add-start : goal.overflow-add-start
 overflow-add-start g c =
-    let h : c.args.place * c.max-size-size.result + c.max-size-size.result ≤ length c.args.memory.now = slot_ends g.row.V-Value.bytes g.row.V-Value.reads g.row.V-Value.width c.args.memory.now _ _ c.max-size-size.ensures c.requires in
+    let h : c.args.place * c.max-size-size.result + c.max-size-size.result ≤ length c.args.memory.now = slot_ends g.V.Value.bytes g.V.Value.reads g.V.Value.width c.args.memory.now _ _ c.max-size-size.ensures c.requires in
     search rules
 
 pub slice-bounds-write-end : goal.slice-bounds-write-end
 slice-bounds-write-end g c =
-    let h : c.args.place * c.max-size-size.result + c.max-size-size.result ≤ length c.args.memory.now = slot_ends g.row.V-Value.bytes g.row.V-Value.reads g.row.V-Value.width c.args.memory.now _ _ c.max-size-size.ensures c.requires in
+    let h : c.args.place * c.max-size-size.result + c.max-size-size.result ≤ length c.args.memory.now = slot_ends g.V.Value.bytes g.V.Value.reads g.V.Value.width c.args.memory.now _ _ c.max-size-size.ensures c.requires in
     search rules
 
 pub returns : goal.returns
 returns g c =
-    let long = part_long g.row.V-Value.bytes g.row.V-Value.reads g.row.V-Value.width c.args.memory.now c.args.place c.max-size-size.result c.max-size-size.ensures c.requires in
-    slot_written g.row.V-Value.bytes g.row.V-Value.reads g.row.V-Value.width c.args.memory.now c.args.place c.max-size-size.result c.max-size-size.ensures c.requires c.write.new.out c.args.message.now
+    let long = part_long g.V.Value.bytes g.V.Value.reads g.V.Value.width c.args.memory.now c.args.place c.max-size-size.result c.max-size-size.ensures c.requires in
+    slot_written g.V.Value.bytes g.V.Value.reads g.V.Value.width c.args.memory.now c.args.place c.max-size-size.result c.max-size-size.ensures c.requires c.write.new.out c.args.message.now
     (c.write.auto.out ∙ long ∙ sym c.max-size-size.ensures)
-    (written_front g.row.V-Value.bytes g.row.V-Value.reads g.row.V-Value.width g.met.V.Value.back g.met.V.Value.fixed _ c.write.new.out c.args.message.now long c.write.ensures.buffer)
+    (written_front g.V.Value.bytes g.V.Value.reads g.V.Value.width g.met.V.Value.back g.met.V.Value.fixed _ c.write.new.out c.args.message.now long c.write.ensures.buffer)

@@ -10,7 +10,7 @@ invariant-loop-found g l =
     × (l.reader.at ≤ length l.script)
     × (length l.script ≤ longest)
     × (l.number ≤ l.reader.at + 1)
-    × ((rest : List ℕ) → Lines g.row.V-Value.width g.row.V-Value.reads g.V.Listed.said l.script l.number l.reader.at rest → Lines g.row.V-Value.width g.row.V-Value.reads g.V.Listed.said l.script 1 0 (string_bytes l.text ++ rest))
+    × ((rest : List ℕ) → Lines g.V.Value.width g.V.Value.reads g.V.Listed.said l.script l.number l.reader.at rest → Lines g.V.Value.width g.V.Value.reads g.V.Listed.said l.script 1 0 (string_bytes l.text ++ rest))
 
 abbrev pub decreases-loop-found : goal.decreases-loop-found
 decreases-loop-found g l = length l.script - l.reader.at

@@ -4,18 +4,18 @@ use Rattle.messages.proofs.Fields.{one_byte}
 use Rattle.messages.proofs.Parts.{after_kind, page_is, joined}
 use Rattle.messages.proofs.codec.read_kind_and_page.Goals as goal
 
-pub returns-in-err-number : goal.returns-in-err-number
-returns-in-err-number c = rw c.from-residual.ensures (λ p is. c.in-err-number.ensures (p.0 ∷ [], field 2 (word p.1) ++ p.2) is)
+pub returns-in_err-number : goal.returns-in_err-number
+returns-in_err-number c = rw c.from_residual.ensures (λ p is. c.in_err-number.ensures (p.0 ∷ [], field 2 (word p.1) ++ p.2) is)
 
-pub returns-in-err-page : goal.returns-in-err-page
-returns-in-err-page c =
-    rw c.from-residual-in-err-page.ensures
-    (λ p is. c.in-err-page.ensures (word p.1, p.2) (after_kind _ _ _ c.in-ok-number.ensures p.0 p.1 p.2 is))
+pub returns-in_err-page : goal.returns-in_err-page
+returns-in_err-page c =
+    rw c.from_residual-in_err-page.ensures
+    (λ p is. c.in_err-page.ensures (word p.1, p.2) (after_kind _ _ _ c.in_ok-number.ensures p.0 p.1 p.2 is))
 
-pub returns-in-err-read-two-bytes : goal.returns-in-err-read-two-bytes
-returns-in-err-read-two-bytes c =
-    rw c.from-residual-in-err-read-two-bytes.ensures
-    (λ p is. c.in-err-read-two-bytes.ensures p.1 (page_is _ _ _ c.in-ok-number.ensures _ _ c.in-ok-page.ensures p.0 p.1 p.2 is))
+pub returns-in_err-read_two_bytes : goal.returns-in_err-read_two_bytes
+returns-in_err-read_two_bytes c =
+    rw c.from_residual-in_err-read_two_bytes.ensures
+    (λ p is. c.in_err-read_two_bytes.ensures p.1 (page_is _ _ _ c.in_ok-number.ensures _ _ c.in_ok-page.ensures p.0 p.1 p.2 is))
 
 pub returns : goal.returns
-returns c = joined _ _ _ c.in-ok-number.ensures _ _ c.in-ok-page.ensures _ _ (one_byte _ (search rules)) c.in-ok-read-two-bytes.ensures
+returns c = joined _ _ _ c.in_ok-number.ensures _ _ c.in_ok-page.ensures _ _ (one_byte _ (search rules)) c.in_ok-read_two_bytes.ensures

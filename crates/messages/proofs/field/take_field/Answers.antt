@@ -1,4 +1,4 @@
 use Rattle.messages.proofs.field.take_field.Goals as goal
 
-pub returns-in-err-first : goal.returns-in-err-first
-returns-in-err-first c = rw c.from-residual.ensures (λ p is. c.in-err-first.ensures (c.args.tag, p.0, p.1) is)
+pub returns-in_err-first : goal.returns-in_err-first
+returns-in_err-first c = rw c.from_residual.ensures (λ p is. c.in_err-first.ensures (c.args.tag, p.0, p.1) is)

@@ -2,4 +2,4 @@ use Rattle.messages.proofs.Trips.{round_trip}
 use Rattle.messages.proofs.theorems.round_trip_holds.Goals as goal
 
 pub returns : goal.returns
-returns g c = round_trip g.row.V-Value.bytes g.row.V-Value.reads g.met.V.Value.back g.row.V-Value.width g.met.V.Value.fixed
+returns g c = round_trip g.V.Value.bytes g.V.Value.reads g.met.V.Value.back g.V.Value.width g.met.V.Value.fixed

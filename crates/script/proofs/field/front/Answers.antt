@@ -11,4 +11,4 @@ returns-in-Some c = (refl, (c.in-Some.field-0-2.now, c.in-Some.ensures))
 pub returns-in-None : goal.returns-in-None
 returns-in-None c =
     rw c.at-in-None.ensures
-    (refl, (c.if-left-lt-HEADER.false, body_cut c.args.left.now (λ i. (c.type-inv.left i).fits) c.if-left-lt-HEADER.false (λ tag body rest is. c.in-None.ensures (tag, body, rest) is)))
+    (refl, (c.if-left-lt-HEADER.false, body_cut c.args.left.now (λ i. (c.type_inv.left i).fits) c.if-left-lt-HEADER.false (λ tag body rest is. c.in-None.ensures (tag, body, rest) is)))

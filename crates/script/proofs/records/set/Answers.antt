@@ -9,7 +9,7 @@ pub returns-in-err-value : goal.returns-in-err-value
 returns-in-err-value g c =
     let p = err_from_is_err_and c.from-residual.result c.from-residual.ensures.1 in
     rw (p.1, p.2)
-    (value_broken g.row.V-Value.width (λ bytes. is_some (g.row.V-Value.reads bytes)) 2 2 c.args.body.now _ c.args.at _ (search rules) refl (search rules) (left_is c.args.body.now 2) (set_reads _ _ c.args.body.now c.args.at) c.in-err-value.ensures)
+    (value_broken g.V.Value.width (λ bytes. is_some (g.V.Value.reads bytes)) 2 2 c.args.body.now _ c.args.at _ (search rules) refl (search rules) (left_is c.args.body.now 2) (set_reads _ _ c.args.body.now c.args.at) c.in-err-value.ensures)
 
 pub returns : goal.returns
 returns g c =
@@ -18,6 +18,6 @@ returns g c =
       tagged = refl;
       bodied = page_then c.args.body.now _ _ (search rules) c.from-be-bytes.ensures (search rules) (ap (λ (p : Piece). p.bytes) value.2 ∙ left_is c.args.body.now 2);
       wide = ap (λ (p : Piece). length p.bytes) value.2 ∙ value.0;
-      reads = ap (λ (p : Piece). is_some (g.row.V-Value.reads p.bytes)) value.2 ∙ value.1;
+      reads = ap (λ (p : Piece). is_some (g.V.Value.reads p.bytes)) value.2 ∙ value.1;
       placed = ap (λ (p : Piece). p.at) value.2;
     }

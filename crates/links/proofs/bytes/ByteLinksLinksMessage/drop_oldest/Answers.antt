@@ -9,10 +9,10 @@ use Rattle.links.proofs.bytes.ByteLinksLinksMessage.drop_oldest.Given as given
 use Rattle.links.proofs.bytes.ByteLinksLinksMessage.drop_oldest.Goals as goal
 
 abbrev kept : (g : given.Over) → List ℕ → List (Message g.row.V.Denot)
-kept g memory = slots g.row.V-Value.bytes g.row.V-Value.reads g.row.V-Value.width memory
+kept g memory = slots g.V.Value.bytes g.V.Value.reads g.V.Value.width memory
 
-many : (g : given.Over) (memory : List ℕ) (n : ℕ) → n ≡ length memory / max_size g.row.V-Value.width → n ≡ length (kept g memory)
-many g memory n e = slots_many g.row.V-Value.bytes g.row.V-Value.reads g.row.V-Value.width memory n e
+many : (g : given.Over) (memory : List ℕ) (n : ℕ) → n ≡ length memory / max_size g.V.Value.width → n ≡ length (kept g memory)
+many g memory n e = slots_many g.V.Value.bytes g.V.Value.reads g.V.Value.width memory n e
 
 pub returns : goal.returns
 returns g c =

@@ -6,7 +6,7 @@ use Rattle.script.proofs.field.Reader.next_record.Given as goal
 abbrev pub invariant-loop-field : goal.invariant-loop-field
 invariant-loop-field g l =
     (l.self.script.now ≡ l.initial.self.script.now)
-    × ((next : Outcome) (to : ℕ) → Next g.row.V-Value.width (λ bytes. is_some (g.row.V-Value.reads bytes)) l.initial.self.script.now l.self.at next to → Next g.row.V-Value.width (λ bytes. is_some (g.row.V-Value.reads bytes)) l.initial.self.script.now l.initial.self.at next to)
+    × ((next : Outcome) (to : ℕ) → Next g.V.Value.width (λ bytes. is_some (g.V.Value.reads bytes)) l.initial.self.script.now l.self.at next to → Next g.V.Value.width (λ bytes. is_some (g.V.Value.reads bytes)) l.initial.self.script.now l.initial.self.at next to)
 
 abbrev pub decreases-loop-field : goal.decreases-loop-field
 decreases-loop-field g l = length l.self.script.now - l.self.at

@@ -43,9 +43,9 @@ pub(crate) fn station_does<V: Copy, L: Links<Message<V>>>(
     page: usize,
     step: StationStep<V>,
 )
-    requires { (station < sizes.stations) × ((page < sizes.pages) × ((length cells.old ≡ sizes.stations * sizes.pages) × (space_to_send (view links.old) lane station step.sends ≡ true))) }
+    requires { (station < sizes.stations) × ((page < sizes.pages) × ((length cells.old ≡ sizes.stations * sizes.pages) × (space_to_send (L.view links.old) lane station step.sends ≡ true))) }
     ensures cells { cells_of sizes.stations sizes.pages cells.new ≡ with_cell (cells_of sizes.stations sizes.pages cells.old) station page step.cell }
-    ensures links { view links.new ≡ with_lanes (view links.old) (posted (view links.old).waiting (from_station lane station page step.sends)) }
+    ensures links { L.view links.new ≡ with_lanes (L.view links.old) (posted (L.view links.old).waiting (from_station lane station page step.sends)) }
 {
     write_cell(sizes, cells, station, page, step.cell);
     send_up(links, lane, station, page as u16, step.sends);
@@ -61,9 +61,9 @@ pub(crate) fn home_does<V: Copy, D: Register, L: Links<Message<V>>>(
     page: usize,
     step: HomeStep<V, D>,
 )
-    requires { (page < sizes.pages) × ((length home.old ≡ sizes.pages) × ((same_lane Down from ≡ false) × (space_for_all (view links.old) (sends_meaning names step.sends) ≡ true))) }
-    ensures home { (v : _) → pages_of names v home.new ≡ with_entry (pages_of names v home.old) page (page_meaning names step.page) }
-    ensures links { view links.new ≡ with_lanes (view links.old) (posted (left_lane (account_of step.deed).leaves from station (view links.old).waiting) (from_home page (sends_meaning names step.sends))) }
+    requires { (page < sizes.pages) × ((length home.old ≡ sizes.pages) × ((same_lane Down from ≡ false) × (space_for_all (L.view links.old) (sends_meaning D.names step.sends) ≡ true))) }
+    ensures home { (v : _) → pages_of D.names v home.new ≡ with_entry (pages_of D.names v home.old) page (page_meaning D.names step.page) }
+    ensures links { L.view links.new ≡ with_lanes (L.view links.old) (posted (left_lane (account_of step.deed).leaves from station (L.view links.old).waiting) (from_home page (sends_meaning D.names step.sends))) }
 {
     leave(links, step.deed.leaves(), from, station);
     write_page(home, page, step.page);

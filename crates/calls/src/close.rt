@@ -25,7 +25,7 @@ pub(crate) fn close<V: Copy, D: Register, L: Links<Message<V>>>(
     links: &L,
     queues: &Queues<'_, Instruction<V>>,
 ) -> Result<(), Refusal>
-    ensures { CallAnswered names sizes (memory home.now cells.now (view links.now) (view_of queues.now)) (memory home.now cells.now (view links.now) (view_of queues.now)) Close (λ _. Closed) result }
+    ensures { CallAnswered D.names sizes (memory home.now cells.now (L.view links.now) (view_of queues.now)) (memory home.now cells.now (L.view links.now) (view_of queues.now)) Close (λ _. Closed) result }
 {
     if !fits(sizes, home, cells, links, queues) {
         return Err(Refusal::Memory);

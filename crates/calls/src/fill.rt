@@ -12,7 +12,7 @@ use registers::register::Register;
 
 // Every page has the same value and names nobody.
 pub(crate) fn fill_home<V: Copy, D: Register>(home: &mut [HomePage<V, D>], value: V)
-    ensures { (q : ℕ) → pages_of names value home.new q ≡ page value (R nobody) }
+    ensures { (q : ℕ) → pages_of D.names value home.new q ≡ page value (R nobody) }
 {
     for at in 0..home.len() {
         write_page(

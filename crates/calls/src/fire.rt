@@ -29,7 +29,7 @@ pub(crate) fn fire<V: Copy, D: Register, L: Links<Message<V>>>(
     links: &mut L,
     queues: &mut Queues<'_, Instruction<V>>,
 ) -> Result<(usize, Deed<V>), Refusal>
-    ensures { CallAnswered names sizes (memory home.old cells.old (view links.old) (view_of queues.old)) (memory home.new cells.new (view links.new) (view_of queues.new)) (Fire kind station) (λ x. Fired kind station x.0 x.1) result }
+    ensures { CallAnswered D.names sizes (memory home.old cells.old (L.view links.old) (view_of queues.old)) (memory home.new cells.new (L.view links.new) (view_of queues.new)) (Fire kind station) (λ x. Fired kind station x.0 x.1) result }
 {
     if !fits(sizes, home, cells, links, queues) {
         return Err(Refusal::Memory);

@@ -26,11 +26,11 @@ pub(crate) fn work<V: Copy, L: Links<Message<V>>>(
     queues: &mut Queues<'_, Instruction<V>>,
     station: usize,
 ) -> Result<(usize, Deed<V>), Refusal>
-    requires { (station < sizes.stations) × ((length cells.old ≡ sizes.stations * sizes.pages) × (((view links.old).count ≡ sizes.stations) × ((view links.old).room ≡ sizes.room))) }
-    ensures answer { (home : _) (extents : _) → Answered (plain sizes) (state_of home (cells_of sizes.stations sizes.pages cells.old) (view links.old).waiting (view_of queues.old).row extents) station Work (state_of home (cells_of sizes.stations sizes.pages cells.new) (view links.new).waiting (view_of queues.new).row extents) result }
-    ensures links { SameLinks (view links.old) (view links.new) }
+    requires { (station < sizes.stations) × ((length cells.old ≡ sizes.stations * sizes.pages) × (((L.view links.old).count ≡ sizes.stations) × ((L.view links.old).room ≡ sizes.room))) }
+    ensures answer { (home : _) (extents : _) → Answered (plain sizes) (state_of home (cells_of sizes.stations sizes.pages cells.old) (L.view links.old).waiting (view_of queues.old).row extents) station Work (state_of home (cells_of sizes.stations sizes.pages cells.new) (L.view links.new).waiting (view_of queues.new).row extents) result }
+    ensures links { SameLinks (L.view links.old) (L.view links.new) }
     ensures queues { SameQueues (view_of queues.old) (view_of queues.new) }
-    ensures denied { Denied ((cells.new ≡ cells.old) × (view links.new ≡ view links.old) × (view_of queues.new ≡ view_of queues.old)) result }
+    ensures denied { Denied ((cells.new ≡ cells.old) × (L.view links.new ≡ L.view links.old) × (view_of queues.new ≡ view_of queues.old)) result }
 {
     let (page, step) = plan_work(sizes, cells, links, queues, station)?;
     leave_queue(queues, step.deed.leaves(), station);
@@ -45,10 +45,10 @@ pub(crate) fn receive<V: Copy, L: Links<Message<V>>>(
     links: &mut L,
     station: usize,
 ) -> Result<(usize, Deed<V>), Refusal>
-    requires { (station < sizes.stations) × ((length cells.old ≡ sizes.stations * sizes.pages) × (((view links.old).count ≡ sizes.stations) × ((view links.old).room ≡ sizes.room))) }
-    ensures answer { (home : _) (rows : _) (extents : _) → Answered (plain sizes) (state_of home (cells_of sizes.stations sizes.pages cells.old) (view links.old).waiting rows extents) station Receive (state_of home (cells_of sizes.stations sizes.pages cells.new) (view links.new).waiting rows extents) result }
-    ensures links { SameLinks (view links.old) (view links.new) }
-    ensures denied { Denied ((cells.new ≡ cells.old) × (view links.new ≡ view links.old)) result }
+    requires { (station < sizes.stations) × ((length cells.old ≡ sizes.stations * sizes.pages) × (((L.view links.old).count ≡ sizes.stations) × ((L.view links.old).room ≡ sizes.room))) }
+    ensures answer { (home : _) (rows : _) (extents : _) → Answered (plain sizes) (state_of home (cells_of sizes.stations sizes.pages cells.old) (L.view links.old).waiting rows extents) station Receive (state_of home (cells_of sizes.stations sizes.pages cells.new) (L.view links.new).waiting rows extents) result }
+    ensures links { SameLinks (L.view links.old) (L.view links.new) }
+    ensures denied { Denied ((cells.new ≡ cells.old) × (L.view links.new ≡ L.view links.old)) result }
 {
     let (page, step) = plan_receive(sizes, cells, links, station)?;
     leave(links, step.deed.leaves(), Lane::Down, station);
@@ -64,9 +64,9 @@ pub(crate) fn collect<V: Copy, D: Register, L: Links<Message<V>>>(
     station: usize,
 ) -> Result<(usize, Deed<V>), Refusal>
     requires { length home.old ≡ sizes.pages }
-    ensures answer { (v : _) (cells : _) (rows : _) (extents : _) → Answered (plain sizes) (state_of (pages_of names v home.old) cells (view links.old).waiting rows extents) station Collect (state_of (pages_of names v home.new) cells (view links.new).waiting rows extents) result }
-    ensures links { SameLinks (view links.old) (view links.new) }
-    ensures denied { Denied ((home.new ≡ home.old) × (view links.new ≡ view links.old)) result }
+    ensures answer { (v : _) (cells : _) (rows : _) (extents : _) → Answered (plain sizes) (state_of (pages_of D.names v home.old) cells (L.view links.old).waiting rows extents) station Collect (state_of (pages_of D.names v home.new) cells (L.view links.new).waiting rows extents) result }
+    ensures links { SameLinks (L.view links.old) (L.view links.new) }
+    ensures denied { Denied ((home.new ≡ home.old) × (L.view links.new ≡ L.view links.old)) result }
 {
     let (page, step) = plan_collect(sizes, home, links, station)?;
     home_does(sizes, home, links, Lane::Reply, station, page, step);
@@ -80,10 +80,10 @@ pub(crate) fn serve<V: Copy, D: Register, L: Links<Message<V>>>(
     links: &mut L,
     station: usize,
 ) -> Result<(usize, Deed<V>), Refusal>
-    requires { (length home.old ≡ sizes.pages) × (((view links.old).count ≡ sizes.stations) × ((view links.old).room ≡ sizes.room)) }
-    ensures answer { (v : _) (cells : _) (rows : _) (extents : _) → Answered (plain sizes) (state_of (pages_of names v home.old) cells (view links.old).waiting rows extents) station Serve (state_of (pages_of names v home.new) cells (view links.new).waiting rows extents) result }
-    ensures links { SameLinks (view links.old) (view links.new) }
-    ensures denied { Denied ((home.new ≡ home.old) × (view links.new ≡ view links.old)) result }
+    requires { (length home.old ≡ sizes.pages) × (((L.view links.old).count ≡ sizes.stations) × ((L.view links.old).room ≡ sizes.room)) }
+    ensures answer { (v : _) (cells : _) (rows : _) (extents : _) → Answered (plain sizes) (state_of (pages_of D.names v home.old) cells (L.view links.old).waiting rows extents) station Serve (state_of (pages_of D.names v home.new) cells (L.view links.new).waiting rows extents) result }
+    ensures links { SameLinks (L.view links.old) (L.view links.new) }
+    ensures denied { Denied ((home.new ≡ home.old) × (L.view links.new ≡ L.view links.old)) result }
 {
     let (page, step) = plan_serve(sizes, home, links, station)?;
     home_does(sizes, home, links, Lane::Request, station, page, step);

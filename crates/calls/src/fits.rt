@@ -26,7 +26,7 @@ fn tables_fit<V: Copy, D: Register>(
 }
 
 fn links_fit<V: Copy, L: Links<Message<V>>>(sizes: RoundSizes, links: &L) -> bool
-    ensures { result ≡ links_fit sizes (view links.now) }
+    ensures { result ≡ links_fit sizes (L.view links.now) }
 {
     links.count() == sizes.stations && links.room() == sizes.room
 }
@@ -45,7 +45,7 @@ pub(crate) fn fits<V: Copy, D: Register, L: Links<Message<V>>>(
     links: &L,
     queues: &Queues<'_, Instruction<V>>,
 ) -> bool
-    ensures { result ≡ fitting sizes (memory home.now cells.now (view links.now) (view_of queues.now)) }
+    ensures { result ≡ fitting sizes (memory home.now cells.now (L.view links.now) (view_of queues.now)) }
 {
     if !tables_fit(sizes, home, cells) {
         return false;

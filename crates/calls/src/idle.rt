@@ -9,7 +9,7 @@ use registers::register::STATIONS;
 
 // Whether no message waits on the three lanes of a station.
 fn lanes_idle<V: Copy, L: Links<Message<V>>>(links: &L, station: usize) -> bool
-    ensures { Decides result ((lane : Lane) → (view links.now).waiting lane station ≡ []) }
+    ensures { Decides result ((lane : Lane) → (L.view links.now).waiting lane station ≡ []) }
 {
     if links.waiting(Lane::Request, station) > 0 {
         return false;
@@ -22,7 +22,7 @@ fn lanes_idle<V: Copy, L: Links<Message<V>>>(links: &L, station: usize) -> bool
 
 // Whether no message waits on any lane.
 fn links_idle<V: Copy, L: Links<Message<V>>>(links: &L) -> bool
-    ensures { Decides result ((lane : Lane) (s : ℕ) → (view links.now).waiting lane s ≡ []) }
+    ensures { Decides result ((lane : Lane) (s : ℕ) → (L.view links.now).waiting lane s ≡ []) }
 {
     for station in 0..STATIONS {
         if !lanes_idle(links, station) {
@@ -49,7 +49,7 @@ pub(crate) fn all_idle<V: Copy, L: Links<Message<V>>>(
     links: &L,
     queues: &Queues<'_, Instruction<V>>,
 ) -> bool
-    ensures { Decides result (((s : ℕ) → (view_of queues.now).row s ≡ []) × ((lane : Lane) (s : ℕ) → (view links.now).waiting lane s ≡ [])) }
+    ensures { Decides result (((s : ℕ) → (view_of queues.now).row s ≡ []) × ((lane : Lane) (s : ℕ) → (L.view links.now).waiting lane s ≡ [])) }
 {
     if !queues_idle(queues) {
         return false;

@@ -26,7 +26,7 @@ pub(crate) fn issue<V: Copy, D: Register, L: Links<Message<V>>>(
     links: &L,
     queues: &mut Queues<'_, Instruction<V>>,
 ) -> Result<(), Refusal>
-    ensures { CallAnswered names sizes (memory home.now cells.now (view links.now) (view_of queues.old)) (memory home.now cells.now (view links.now) (view_of queues.new)) (Issue station instruction) (λ _. Issued station instruction) result }
+    ensures { CallAnswered D.names sizes (memory home.now cells.now (L.view links.now) (view_of queues.old)) (memory home.now cells.now (L.view links.now) (view_of queues.new)) (Issue station instruction) (λ _. Issued station instruction) result }
 {
     if !fits(sizes, home, cells, links, queues) {
         return Err(Refusal::Memory);

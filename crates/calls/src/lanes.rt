@@ -13,7 +13,7 @@ use registers::register::{Register, STATIONS};
 
 // Whether the station is served and its lane has space.
 fn has_space<V: Copy, L: Links<Message<V>>>(links: &L, lane: Lane, station: usize) -> bool
-    ensures { result ≡ has_space (view links.now) lane station }
+    ensures { result ≡ has_space (L.view links.now) lane station }
 {
     station < links.count() && links.waiting(lane, station) < links.room()
 }
@@ -25,7 +25,7 @@ pub(crate) fn space_to_send<V: Copy, L: Links<Message<V>>>(
     station: usize,
     sends: Option<Kind<V>>,
 ) -> bool
-    ensures { result ≡ space_to_send (view links.now) lane station sends }
+    ensures { result ≡ space_to_send (L.view links.now) lane station sends }
 {
     match sends {
         None => true,
@@ -35,7 +35,7 @@ pub(crate) fn space_to_send<V: Copy, L: Links<Message<V>>>(
 
 // Whether the down lane of each station of a register is a served station's, with space.
 fn all_space<V: Copy, L: Links<Message<V>>, D: Register>(links: &L, set: D) -> bool
-    ensures { result ≡ space_below (view links.now) station_limit (names set) }
+    ensures { result ≡ space_below (L.view links.now) station_limit (D.names set) }
 {
     for station in 0..STATIONS {
         if set.names(station) {
@@ -52,7 +52,7 @@ pub(crate) fn space_for_all<V: Copy, L: Links<Message<V>>, D: Register>(
     links: &L,
     sends: Sends<V, D>,
 ) -> bool
-    ensures { result ≡ space_for_all (view links.now) (sends_meaning names sends) }
+    ensures { result ≡ space_for_all (L.view links.now) (sends_meaning D.names sends) }
 {
     match sends {
         Sends::Nothing => true,
@@ -68,7 +68,7 @@ pub(crate) fn leave<V: Copy, L: Links<Message<V>>>(
     from: Lane,
     station: usize,
 )
-    ensures { view links.new ≡ with_lanes (view links.old) (left_lane leaves from station (view links.old).waiting) }
+    ensures { L.view links.new ≡ with_lanes (L.view links.old) (left_lane leaves from station (L.view links.old).waiting) }
 {
     if leaves {
         let _ = links.drop_oldest(from, station);
@@ -83,8 +83,8 @@ pub(crate) fn send_up<V: Copy, L: Links<Message<V>>>(
     page: u16,
     sends: Option<Kind<V>>,
 )
-    requires { space_to_send (view links.old) lane station sends ≡ true }
-    ensures { view links.new ≡ with_lanes (view links.old) (posted (view links.old).waiting (from_station lane station page sends)) }
+    requires { space_to_send (L.view links.old) lane station sends ≡ true }
+    ensures { L.view links.new ≡ with_lanes (L.view links.old) (posted (L.view links.old).waiting (from_station lane station page sends)) }
 {
     if let Some(kind) = sends {
         let _ = links.send(lane, station, Message { page, kind });
@@ -98,8 +98,8 @@ fn send_to_all<V: Copy, L: Links<Message<V>>, D: Register>(
     set: D,
     kind: Kind<V>,
 )
-    requires { space_below (view links.old) station_limit (names set) ≡ true }
-    ensures { view links.new ≡ with_lanes (view links.old) (posted (view links.old).waiting (from_home page (ToAll (names set) kind))) }
+    requires { space_below (L.view links.old) station_limit (D.names set) ≡ true }
+    ensures { L.view links.new ≡ with_lanes (L.view links.old) (posted (L.view links.old).waiting (from_home page (ToAll (D.names set) kind))) }
 {
     for station in 0..STATIONS {
         if set.names(station) {
@@ -114,8 +114,8 @@ pub(crate) fn send_down<V: Copy, L: Links<Message<V>>, D: Register>(
     page: u16,
     sends: Sends<V, D>,
 )
-    requires { space_for_all (view links.old) (sends_meaning names sends) ≡ true }
-    ensures { view links.new ≡ with_lanes (view links.old) (posted (view links.old).waiting (from_home page (sends_meaning names sends))) }
+    requires { space_for_all (L.view links.old) (sends_meaning D.names sends) ≡ true }
+    ensures { L.view links.new ≡ with_lanes (L.view links.old) (posted (L.view links.old).waiting (from_home page (sends_meaning D.names sends))) }
 {
     match sends {
         Sends::Nothing => {}

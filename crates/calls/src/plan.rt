@@ -29,10 +29,10 @@ pub(crate) fn plan_work<V: Copy, L: Links<Message<V>>>(
     queues: &Queues<'_, Instruction<V>>,
     station: usize,
 ) -> Result<(usize, StationStep<V>), Refusal>
-    requires { (station < sizes.stations) × ((length cells.now ≡ sizes.stations * sizes.pages) × (((view links.now).count ≡ sizes.stations) × ((view links.now).room ≡ sizes.room))) }
-    ensures plan { (home : _) (extents : _) → let st = state_of home (cells_of sizes.stations sizes.pages cells.now) (view links.now).waiting (view_of queues.now).row extents in Planned (plain sizes) st station Work (work_outcome st station) result }
+    requires { (station < sizes.stations) × ((length cells.now ≡ sizes.stations * sizes.pages) × (((L.view links.now).count ≡ sizes.stations) × ((L.view links.now).room ≡ sizes.room))) }
+    ensures plan { (home : _) (extents : _) → let st = state_of home (cells_of sizes.stations sizes.pages cells.now) (L.view links.now).waiting (view_of queues.now).row extents in Planned (plain sizes) st station Work (work_outcome st station) result }
     ensures inside { Found (λ x. x.0 < sizes.pages) result }
-    ensures space { Found (λ x. space_to_send (view links.now) Request station x.1.sends ≡ true) result }
+    ensures space { Found (λ x. space_to_send (L.view links.now) Request station x.1.sends ≡ true) result }
 {
     let Some(instruction) = queues.oldest(station) else {
         return Err(Refusal::NothingWaits);
@@ -57,10 +57,10 @@ pub(crate) fn plan_receive<V: Copy, L: Links<Message<V>>>(
     links: &L,
     station: usize,
 ) -> Result<(usize, StationStep<V>), Refusal>
-    requires { (station < sizes.stations) × ((length cells.now ≡ sizes.stations * sizes.pages) × (((view links.now).count ≡ sizes.stations) × ((view links.now).room ≡ sizes.room))) }
-    ensures plan { (home : _) (rows : _) (extents : _) → let st = state_of home (cells_of sizes.stations sizes.pages cells.now) (view links.now).waiting rows extents in Planned (plain sizes) st station Receive (receive_outcome st station) result }
+    requires { (station < sizes.stations) × ((length cells.now ≡ sizes.stations * sizes.pages) × (((L.view links.now).count ≡ sizes.stations) × ((L.view links.now).room ≡ sizes.room))) }
+    ensures plan { (home : _) (rows : _) (extents : _) → let st = state_of home (cells_of sizes.stations sizes.pages cells.now) (L.view links.now).waiting rows extents in Planned (plain sizes) st station Receive (receive_outcome st station) result }
     ensures inside { Found (λ x. x.0 < sizes.pages) result }
-    ensures space { Found (λ x. space_to_send (view links.now) Reply station x.1.sends ≡ true) result }
+    ensures space { Found (λ x. space_to_send (L.view links.now) Reply station x.1.sends ≡ true) result }
 {
     let Some(message) = links.oldest(Lane::Down, station) else {
         return Err(Refusal::NothingWaits);
@@ -86,9 +86,9 @@ pub(crate) fn plan_collect<V: Copy, D: Register, L: Links<Message<V>>>(
     station: usize,
 ) -> Result<(usize, HomeStep<V, D>), Refusal>
     requires { length home.now ≡ sizes.pages }
-    ensures plan { (v : _) (cells : _) (rows : _) (extents : _) → let st = state_of (pages_of names v home.now) cells (view links.now).waiting rows extents in Planned (plain sizes) st station Collect (collect_outcome st station names) result }
+    ensures plan { (v : _) (cells : _) (rows : _) (extents : _) → let st = state_of (pages_of D.names v home.now) cells (L.view links.now).waiting rows extents in Planned (plain sizes) st station Collect (collect_outcome st station D.names) result }
     ensures inside { Found (λ x. x.0 < sizes.pages) result }
-    ensures silent { Found (λ x. sends_meaning names x.1.sends ≡ Nothing) result }
+    ensures silent { Found (λ x. sends_meaning D.names x.1.sends ≡ Nothing) result }
 {
     let Some(message) = links.oldest(Lane::Reply, station) else {
         return Err(Refusal::NothingWaits);
@@ -110,10 +110,10 @@ pub(crate) fn plan_serve<V: Copy, D: Register, L: Links<Message<V>>>(
     links: &L,
     station: usize,
 ) -> Result<(usize, HomeStep<V, D>), Refusal>
-    requires { (length home.now ≡ sizes.pages) × (((view links.now).count ≡ sizes.stations) × ((view links.now).room ≡ sizes.room)) }
-    ensures plan { (v : _) (cells : _) (rows : _) (extents : _) → let st = state_of (pages_of names v home.now) cells (view links.now).waiting rows extents in Planned (plain sizes) st station Serve (serve_outcome st station names) result }
+    requires { (length home.now ≡ sizes.pages) × (((L.view links.now).count ≡ sizes.stations) × ((L.view links.now).room ≡ sizes.room)) }
+    ensures plan { (v : _) (cells : _) (rows : _) (extents : _) → let st = state_of (pages_of D.names v home.now) cells (L.view links.now).waiting rows extents in Planned (plain sizes) st station Serve (serve_outcome st station D.names) result }
     ensures inside { Found (λ x. x.0 < sizes.pages) result }
-    ensures space { Found (λ x. space_for_all (view links.now) (sends_meaning names x.1.sends) ≡ true) result }
+    ensures space { Found (λ x. space_for_all (L.view links.now) (sends_meaning D.names x.1.sends) ≡ true) result }
 {
     let Some(message) = links.oldest(Lane::Request, station) else {
         return Err(Refusal::NothingWaits);

@@ -26,7 +26,7 @@ pub(crate) fn prepare<V: Copy, D: Register, L: Links<Message<V>>>(
     links: &L,
     queues: &Queues<'_, Instruction<V>>,
 ) -> Result<RoundSizes, Refusal>
-    ensures { PrepareAnswered names sizes value (memory home.old cells.old (view links.now) (view_of queues.now)) (memory home.new cells.new (view links.now) (view_of queues.now)) result }
+    ensures { PrepareAnswered D.names sizes value (memory home.old cells.old (L.view links.now) (view_of queues.now)) (memory home.new cells.new (L.view links.now) (view_of queues.now)) result }
 {
     let round = RoundSizes::new(sizes)?;
     if !fits(round, home, cells, links, queues) {

@@ -27,7 +27,7 @@ pub(crate) fn readout<V: Copy, D: Register, L: Links<Message<V>>>(
     links: &L,
     queues: &Queues<'_, Instruction<V>>,
 ) -> Result<V, Refusal>
-    ensures { CallAnswered names sizes (memory home.now cells.now (view links.now) (view_of queues.now)) (memory home.now cells.now (view links.now) (view_of queues.now)) (Readout page) (λ w. ReadOut page w) result }
+    ensures { CallAnswered D.names sizes (memory home.now cells.now (L.view links.now) (view_of queues.now)) (memory home.now cells.now (L.view links.now) (view_of queues.now)) (Readout page) (λ w. ReadOut page w) result }
 {
     if !fits(sizes, home, cells, links, queues) {
         return Err(Refusal::Memory);

@@ -27,7 +27,7 @@ pub(crate) fn set<V: Copy, D: Register, L: Links<Message<V>>>(
     links: &L,
     queues: &Queues<'_, Instruction<V>>,
 ) -> Result<(), Refusal>
-    ensures { CallAnswered names sizes (memory home.old cells.now (view links.now) (view_of queues.now)) (memory home.new cells.now (view links.now) (view_of queues.now)) (Set page value) (λ _. WasSet page value) result }
+    ensures { CallAnswered D.names sizes (memory home.old cells.now (L.view links.now) (view_of queues.now)) (memory home.new cells.now (L.view links.now) (view_of queues.now)) (Set page value) (λ _. WasSet page value) result }
 {
     if !fits(sizes, home, cells, links, queues) {
         return Err(Refusal::Memory);

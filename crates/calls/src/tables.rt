@@ -89,7 +89,7 @@ pub(crate) fn read_page<V: Copy, D: Register>(
     page: usize,
 ) -> HomePage<V, D>
     requires { page < length home.now }
-    ensures { (v : _) → pages_of names v home.now page ≡ page_meaning names result }
+    ensures { (v : _) → pages_of D.names v home.now page ≡ page_meaning D.names result }
 {
     home[page]
 }
@@ -100,7 +100,7 @@ pub(crate) fn write_page<V: Copy, D: Register>(
     written: HomePage<V, D>,
 )
     requires { page < length home.old }
-    ensures { (v : _) → pages_of names v home.new ≡ with_entry (pages_of names v home.old) page (page_meaning names written) }
+    ensures { (v : _) → pages_of D.names v home.new ≡ with_entry (pages_of D.names v home.old) page (page_meaning D.names written) }
 {
     home[page] = written;
 }

@@ -3,7 +3,7 @@ use Rattle.std.proofs.Common.{◌≡◌, ℕ, Bool, true, false, cond, ◌&&◌,
 use Rattle.std.proofs.lemmas.Bool.{and_parts, cond-true, eqb-true, lt-ltb}
 use Rattle.links.specs.declared.lane.Lane.{Lane}
 use Rattle.links.specs.declared.lane.Lane.TheVariants.{Request, Reply, Down}
-use Rattle.links.specs.View.{LaneView, lane_number, same_lane, changed, with_lane, has_space, sent, some_wait, dropped}
+use Rattle.links.specs.View.{LaneView, lane_number, same_lane, changed, with_lane, has_space, some_wait}
 use Rattle.links.specs.Order.{Move, sends, drops, after, enters, leaves, entered, left, after_all, FirstInFirstOut}
 
 lane_is : (a b : Lane) → lane_number a ≡ lane_number b → a ≡ b

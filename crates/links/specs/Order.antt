@@ -1,5 +1,5 @@
 -- What comes out of a lane over any row of sends and drops: what went in, in that order. Assumes nothing.
-use Rattle.std.specs.Prelude.{◌≡◌, ℕ, Bool, cond, ◌&&◌, List, [], ◌∷◌, ◌++◌, take, ◌==◌}
+use Rattle.std.specs.Prelude.{◌≡◌, ℕ, cond, ◌&&◌, List, [], ◌∷◌, ◌++◌, take, ◌==◌}
 use Rattle.links.specs.declared.lane.Lane.{Lane}
 use Rattle.links.specs.View.{LaneView, same_lane, has_space, sent, dropped}
 

@@ -64,7 +64,7 @@ impl<V: Value> Links<Message<V>> for ByteLinks<'_> {
 // Links over these bytes, in which nothing waits, whatever the memory held; they serve no station where the sizes do not
 // fit. They need three slots for each station and place of a lane.
 pub fn byte_links<'a, V: Value>(memory: &'a mut [u8], stations: usize, room: usize) -> ByteLinks<'a>
-    ensures { byte_view bytes reads width result ≡ made (length memory.old) (max_size width) stations room }
+    ensures { byte_view V.bytes V.reads V.width result ≡ made (length memory.old) (max_size V.width) stations room }
 {
     let (rows, places) = sizes(stations, room);
     let table = Table::new(slot_count::<V>(memory.len()), rows, places);

@@ -12,8 +12,8 @@ pub fn forward<M: Copy, L: Links<M>>(
     to: Lane,
     station: usize,
 ) -> Result<(), Denied>
-    ensures answer { result ≡ granted_if (can_forward (view links.old) from to station) }
-    ensures after { view links.new ≡ forwarded (view links.old) from to station }
+    ensures answer { result ≡ granted_if (can_forward (L.view links.old) from to station) }
+    ensures after { L.view links.new ≡ forwarded (L.view links.old) from to station }
 {
     let Some(message) = links.oldest(from, station) else {
         return Err(Denied);

@@ -8,15 +8,15 @@ use values::kind::Value;
 
 // How many slots so many bytes have.
 pub(crate) fn slot_count<V: Value>(size: usize) -> usize
-    ensures { result ≡ size / max_size width }
+    ensures { result ≡ size / max_size V.width }
 {
     size / max_size::<V>()
 }
 
 // The message in a slot.
 pub(crate) fn read_slot<V: Value>(memory: &[u8], place: usize) -> Message<V>
-    requires { place < length (slots bytes reads width memory.now) }
-    ensures { result ≡ slice_index_or (slots bytes reads width memory.now) place result }
+    requires { place < length (slots V.bytes V.reads V.width memory.now) }
+    ensures { result ≡ slice_index_or (slots V.bytes V.reads V.width memory.now) place result }
 {
     let size = max_size::<V>();
     let start = place * size;
@@ -25,8 +25,8 @@ pub(crate) fn read_slot<V: Value>(memory: &[u8], place: usize) -> Message<V>
 
 // Puts a message into a slot.
 pub(crate) fn write_slot<V: Value>(memory: &mut [u8], place: usize, message: &Message<V>)
-    requires { place < length (slots bytes reads width memory.old) }
-    ensures { slots bytes reads width memory.new ≡ slice_set (slots bytes reads width memory.old) place message.now }
+    requires { place < length (slots V.bytes V.reads V.width memory.old) }
+    ensures { slots V.bytes V.reads V.width memory.new ≡ slice_set (slots V.bytes V.reads V.width memory.old) place message.now }
 {
     let size = max_size::<V>();
     let start = place * size;
@@ -36,8 +36,8 @@ pub(crate) fn write_slot<V: Value>(memory: &mut [u8], place: usize, message: &Me
 
 // The message at the front of a slot; one without a value leaves the end of its slot as it was.
 fn front_message<V: Value>(slot: &[u8]) -> Message<V>
-    requires { length slot.now ≡ max_size width }
-    ensures { result ≡ front_message bytes reads width slot.now }
+    requires { length slot.now ≡ max_size V.width }
+    ensures { result ≡ front_message V.bytes V.reads V.width slot.now }
 {
     match read(slot) {
         Some(message) => message,

@@ -11,7 +11,7 @@ use registers::register::{Register, only};
 impl<V: Copy, D: Register> HomePage<V, D> {
     // The home reads a reply of a station about this page; nothing where no rule fits.
     pub fn collect(self, station: usize, reply: Kind<V>) -> Option<HomeStep<V, D>>
-        ensures { option_map (step_meaning names) result ≡ collected station (page_meaning names self) reply }
+        ensures { option_map (step_meaning D.names) result ≡ collected station (page_meaning D.names self) reply }
     {
         match (self.state, reply) {
             (HomeState::TW(writer), Kind::WbRep(value)) => {
@@ -62,7 +62,7 @@ impl<V: Copy, D: Register> HomePage<V, D> {
 
     // The home takes a request of a station for this page; nothing where no rule fits.
     pub fn serve(self, station: usize, request: Kind<V>) -> Option<HomeStep<V, D>>
-        ensures { option_map (step_meaning names) result ≡ served station (page_meaning names self) request }
+        ensures { option_map (step_meaning D.names) result ≡ served station (page_meaning D.names self) request }
     {
         match (self.state, request) {
             (HomeState::R(readers), Kind::ShReq) => {
@@ -101,7 +101,7 @@ impl<V: Copy, D: Register> HomePage<V, D> {
 
 // Whom a recalled page still waits for; once for nobody, the recall is over.
 fn after_strike<D: Register>(rest: D) -> HomeState<D>
-    ensures { state_meaning names result ≡ after_strike (names rest) }
+    ensures { state_meaning D.names result ≡ after_strike (D.names rest) }
 {
     if rest.count() == 0 {
         HomeState::R(D::empty())
@@ -112,7 +112,7 @@ fn after_strike<D: Register>(rest: D) -> HomeState<D>
 
 // The writing copy for a station, if no other has a copy; else the others' copies are recalled.
 fn give_or_recall<V: Copy, D: Register>(value: V, readers: D, station: usize) -> HomeStep<V, D>
-    ensures { step_meaning names result ≡ given_or_recalled station value (names readers) }
+    ensures { step_meaning D.names result ≡ given_or_recalled station value (D.names readers) }
 {
     let fold = fold_of(readers.names(station));
     let others = readers.strike(station);
@@ -139,7 +139,7 @@ fn give_or_recall<V: Copy, D: Register>(value: V, readers: D, station: usize) ->
 }
 
 fn recall_writer<V: Copy, D: Register>(value: V, writer: usize, recall: Kind<V>) -> HomeStep<V, D>
-    ensures { step_meaning names result ≡ recalled_writer value writer recall }
+    ensures { step_meaning D.names result ≡ recalled_writer value writer recall }
 {
     let page = HomePage {
         value,

@@ -23,7 +23,7 @@ fn prepare<'a>(body: &'a [u8], at: usize) -> Result<Record<Part<'a>>, Fault>
 
 // A value's part of the script, where it has the width of its kind and reads.
 fn value_part<'a, V: Value>(bytes: &'a [u8], at: usize) -> Result<Part<'a>, Fault>
-    ensures { ValueSays width (λ bytes. is_some (reads bytes)) bytes.entry.now at (piece_seen result) }
+    ensures { ValueSays V.width (λ bytes. is_some (V.reads bytes)) bytes.entry.now at (piece_seen result) }
 {
     if bytes.len() != V::width() {
         return Err(FaultKind::WrongLength.at(at));
@@ -35,7 +35,7 @@ fn value_part<'a, V: Value>(bytes: &'a [u8], at: usize) -> Result<Part<'a>, Faul
 }
 
 fn set<'a, V: Value>(body: &'a [u8], at: usize) -> Result<Record<Part<'a>>, Fault>
-    ensures { Says width (λ bytes. is_some (reads bytes)) 2 body.now at (seen result) }
+    ensures { Says V.width (λ bytes. is_some (V.reads bytes)) 2 body.now at (seen result) }
 {
     let [high, low, bytes @ ..] = body else {
         return Err(FaultKind::WrongLength.at(at));
@@ -69,7 +69,7 @@ fn load<'a>(body: &'a [u8], at: usize) -> Result<Record<Part<'a>>, Fault>
 }
 
 fn store<'a, V: Value>(body: &'a [u8], at: usize) -> Result<Record<Part<'a>>, Fault>
-    ensures { Says width (λ bytes. is_some (reads bytes)) 5 body.now at (seen result) }
+    ensures { Says V.width (λ bytes. is_some (V.reads bytes)) 5 body.now at (seen result) }
 {
     let [station, high, low, bytes @ ..] = body else {
         return Err(FaultKind::WrongLength.at(at));
@@ -137,7 +137,7 @@ const READOUT: u8 = 8;
 
 // The record that a field holds, where it is no padding.
 fn record_of<'a, V: Value>(field: Field<'a>) -> Result<Record<Part<'a>>, Fault>
-    ensures { 0 < field.entry.tag → Says width (λ bytes. is_some (reads bytes)) field.entry.tag field.entry.body.now field.entry.at (seen result) }
+    ensures { 0 < field.entry.tag → Says V.width (λ bytes. is_some (V.reads bytes)) field.entry.tag field.entry.body.now field.entry.at (seen result) }
 {
     let body = field.body;
     let at = field.at;
@@ -157,7 +157,7 @@ fn record_of<'a, V: Value>(field: Field<'a>) -> Result<Record<Part<'a>>, Fault>
 impl<'a> Reader<'a> {
     // The next record, past any padding, or nothing at the end of the script.
     pub fn next_record<V: Value>(&mut self) -> Result<Option<Entry<'a>>, Fault>
-        ensures next { Next width (λ bytes. is_some (reads bytes)) self.old.script.now self.old.at (outcome result) self.new.at }
+        ensures next { Next V.width (λ bytes. is_some (V.reads bytes)) self.old.script.now self.old.at (outcome result) self.new.at }
         ensures script { self.new.script.now ≡ self.old.script.now }
     {
         while let Some(field) = self.next_field()? {
@@ -175,7 +175,7 @@ impl<'a> Reader<'a> {
 
 // The record with its value in place of the value's bytes, where they read.
 pub fn decode<V: Value>(coded: Record<Part<'_>>) -> Option<Record<V>>
-    ensures { result ≡ decoded reads (record_as piece_of coded.entry) }
+    ensures { result ≡ decoded V.reads (record_as piece_of coded.entry) }
 {
     Some(match coded {
         Record::Prepare {

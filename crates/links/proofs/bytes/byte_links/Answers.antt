@@ -20,7 +20,7 @@ enough stations room bytes width count e =
 pub returns : goal.returns
 returns g c =
     let xs : List (Message g.row.V.Denot) = kept g c.args.memory.now in
-    made_lanes (view_in xs c.new-table.result) c.slot-count.result (length c.args.memory.now) (max_size g.V.Value.width) c.args.stations c.args.room c.sizes-rows.result
-    (enough c.args.stations c.args.room (length c.args.memory.now) g.V.Value.width c.slot-count.result c.slot-count.ensures)
+    made_lanes (view_in xs c.new-table.result) c.slot_count.result (length c.args.memory.now) (max_size g.V.Value.width) c.args.stations c.args.room c.sizes-rows.result
+    (enough c.args.stations c.args.room (length c.args.memory.now) g.V.Value.width c.slot_count.result c.slot_count.ensures)
     c.sizes-rows.ensures
-    (made_view xs c.slot-count.result (slots_many g.V.Value.bytes g.V.Value.reads g.V.Value.width c.args.memory.now _ c.slot-count.ensures) c.new-table.result c.sizes-rows.result.0 c.sizes-rows.result.1 c.new-table.ensures)
+    (made_view xs c.slot_count.result (slots_many g.V.Value.bytes g.V.Value.reads g.V.Value.width c.args.memory.now _ c.slot_count.ensures) c.new-table.result c.sizes-rows.result.0 c.sizes-rows.result.1 c.new-table.ensures)

@@ -2,24 +2,24 @@ use Rattle.std.proofs.Common.{◌+◌, ◌*◌, ◌≤◌, length, sym, ◌∙�
 use Rattle.links.proofs.Slots.{slot_ends, part_long, slot_written, written_front}
 use Rattle.links.proofs.slot.write_slot.Goals as goal
 
-pub overflow-mul-start : goal.overflow-mul-start
-overflow-mul-start g c =
-    let h : c.args.place * c.max-size-size.result + c.max-size-size.result ≤ length c.args.memory.now = slot_ends g.V.Value.bytes g.V.Value.reads g.V.Value.width c.args.memory.now _ _ c.max-size-size.ensures c.requires in
+pub overflow_mul-start : goal.overflow_mul-start
+overflow_mul-start g c =
+    let h : c.args.place * c.max_size-size.result + c.max_size-size.result ≤ length c.args.memory.now = slot_ends g.V.Value.bytes g.V.Value.reads g.V.Value.width c.args.memory.now _ _ c.max_size-size.ensures c.requires in
     search rules
 
-pub overflow-add-start : goal.overflow-add-start
-overflow-add-start g c =
-    let h : c.args.place * c.max-size-size.result + c.max-size-size.result ≤ length c.args.memory.now = slot_ends g.V.Value.bytes g.V.Value.reads g.V.Value.width c.args.memory.now _ _ c.max-size-size.ensures c.requires in
+pub overflow_add-start : goal.overflow_add-start
+overflow_add-start g c =
+    let h : c.args.place * c.max_size-size.result + c.max_size-size.result ≤ length c.args.memory.now = slot_ends g.V.Value.bytes g.V.Value.reads g.V.Value.width c.args.memory.now _ _ c.max_size-size.ensures c.requires in
     search rules
 
-pub slice-bounds-write-end : goal.slice-bounds-write-end
-slice-bounds-write-end g c =
-    let h : c.args.place * c.max-size-size.result + c.max-size-size.result ≤ length c.args.memory.now = slot_ends g.V.Value.bytes g.V.Value.reads g.V.Value.width c.args.memory.now _ _ c.max-size-size.ensures c.requires in
+pub slice_bounds-write-end : goal.slice_bounds-write-end
+slice_bounds-write-end g c =
+    let h : c.args.place * c.max_size-size.result + c.max_size-size.result ≤ length c.args.memory.now = slot_ends g.V.Value.bytes g.V.Value.reads g.V.Value.width c.args.memory.now _ _ c.max_size-size.ensures c.requires in
     search rules
 
 pub returns : goal.returns
 returns g c =
-    let long = part_long g.V.Value.bytes g.V.Value.reads g.V.Value.width c.args.memory.now c.args.place c.max-size-size.result c.max-size-size.ensures c.requires in
-    slot_written g.V.Value.bytes g.V.Value.reads g.V.Value.width c.args.memory.now c.args.place c.max-size-size.result c.max-size-size.ensures c.requires c.write.new.out c.args.message.now
-    (c.write.auto.out ∙ long ∙ sym c.max-size-size.ensures)
+    let long = part_long g.V.Value.bytes g.V.Value.reads g.V.Value.width c.args.memory.now c.args.place c.max_size-size.result c.max_size-size.ensures c.requires in
+    slot_written g.V.Value.bytes g.V.Value.reads g.V.Value.width c.args.memory.now c.args.place c.max_size-size.result c.max_size-size.ensures c.requires c.write.new.out c.args.message.now
+    (c.write.auto.out ∙ long ∙ sym c.max_size-size.ensures)
     (written_front g.V.Value.bytes g.V.Value.reads g.V.Value.width g.met.V.Value.back g.met.V.Value.fixed _ c.write.new.out c.args.message.now long c.write.ensures.buffer)

@@ -7,4 +7,4 @@ use Rattle.links.proofs.bytes.ByteLinksLinksMessage.count.Goals as goal
 pub returns : goal.returns
 returns g c =
     ap (λ rows. rows / 3)
-    (c.rows.ensures ∙ rows_view (slots g.V.Value.bytes g.V.Value.reads g.V.Value.width c.args.self.now.memory.now) _ (slots_many g.V.Value.bytes g.V.Value.reads g.V.Value.width c.args.self.now.memory.now _ c.slot-count.ensures) c.args.self.now.table 0)
+    (c.rows.ensures ∙ rows_view (slots g.V.Value.bytes g.V.Value.reads g.V.Value.width c.args.self.now.memory.now) _ (slots_many g.V.Value.bytes g.V.Value.reads g.V.Value.width c.args.self.now.memory.now _ c.slot_count.ensures) c.args.self.now.table 0)

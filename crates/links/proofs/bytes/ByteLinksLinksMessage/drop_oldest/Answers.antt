@@ -17,6 +17,6 @@ many g memory n e = slots_many g.V.Value.bytes g.V.Value.reads g.V.Value.width m
 pub returns : goal.returns
 returns g c =
     record {
-      answer = c.give-up-oldest.ensures.answer ∙ ap granted_if (lane_can_drop (kept g c.args.self.now.memory.now) _ (many g c.args.self.now.memory.now _ c.slot-count-slots.ensures) c.args.self.now.table c.args.lane c.args.station c.rows.result c.row-row.result c.rows.ensures c.row-row.ensures);
-      after = lane_dropped (kept g c.args.self.now.memory.now) _ (many g c.args.self.now.memory.now _ c.slot-count-slots.ensures) c.args.self.now.table c.args.lane c.args.station c.rows.result c.row-row.result c.rows.ensures c.row-row.ensures c.give-up-oldest.new.self c.give-up-oldest.ensures.after;
+      answer = c.give_up_oldest.ensures.answer ∙ ap granted_if (lane_can_drop (kept g c.args.self.now.memory.now) _ (many g c.args.self.now.memory.now _ c.slot_count-slots.ensures) c.args.self.now.table c.args.lane c.args.station c.rows.result c.row-row.result c.rows.ensures c.row-row.ensures);
+      after = lane_dropped (kept g c.args.self.now.memory.now) _ (many g c.args.self.now.memory.now _ c.slot_count-slots.ensures) c.args.self.now.table c.args.lane c.args.station c.rows.result c.row-row.result c.rows.ensures c.row-row.ensures c.give_up_oldest.new.self c.give_up_oldest.ensures.after;
     }

@@ -14,4 +14,4 @@ many : (g : given.Over) (memory : List ℕ) (n : ℕ) → n ≡ length memory / 
 many g memory n e = slots_many g.V.Value.bytes g.V.Value.reads g.V.Value.width memory n e
 
 pub returns : goal.returns
-returns g c = c.waiting.ensures ∙ lane_waiting (kept g c.args.self.now.memory.now) _ (many g c.args.self.now.memory.now _ c.slot-count-slots.ensures) c.args.self.now.table c.args.lane c.args.station c.rows.result c.row-row.result c.rows.ensures c.row-row.ensures
+returns g c = c.waiting.ensures ∙ lane_waiting (kept g c.args.self.now.memory.now) _ (many g c.args.self.now.memory.now _ c.slot_count-slots.ensures) c.args.self.now.table c.args.lane c.args.station c.rows.result c.row-row.result c.rows.ensures c.row-row.ensures

@@ -7,7 +7,7 @@ use Rattle.links.proofs.record.QueuesMessageLinksMessage.drop_oldest.Goals as go
 
 pub returns : goal.returns
 returns g c =
-    let after = c.drop-oldest.ensures in
+    let after = c.drop_oldest.ensures in
     record {
       answer = after.answer ∙ ap granted_if (can_drop_lem (view_of c.args.self.now) c.args.lane c.args.station c.rows.result _ c.rows.ensures c.row-row.ensures);
       after = drop_lanes (view_of c.args.self.now) c.args.lane c.args.station c.rows.result _ c.rows.ensures c.row-row.ensures _ (view_sound c.args.self.now.entries.now c.args.self.now.table) after.after;

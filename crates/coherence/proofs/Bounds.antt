@@ -1,6 +1,6 @@
 -- Nothing ever stands at a station or a page past the counts.
 use Rattle.std.proofs.Common.{◌≡◌, ℕ, ◌<◌, ◌≤◌, Bool, ◌&&◌, eqb, ◌≢◌, List, [], ◌∷◌, length, drop, refl, ap, ◌∙◌, arith}
-use Rattle.std.specs.List.{AllByRecursion as All}
+use Rattle.std.specs.List.{AllByRecursion}
 use Rattle.std.proofs.ByRecursion.{All-drop}
 use Rattle.std.proofs.lemmas.Bool.{cond_both}
 use Rattle.messages.specs.declared.message.Message.{Message}
@@ -23,7 +23,7 @@ pub record Within {V : Type 0} (sizes : Sizes) (st : State V) : Type 0 where
   pub off_home : (p : ℕ) → sizes.pages ≤ p → (st.home p).state ≡ R nobody
   pub far_lane : (lane : Lane) (s : ℕ) → sizes.stations ≤ s → st.lane lane s ≡ []
   pub far_queue : (s : ℕ) → sizes.stations ≤ s → st.queue s ≡ []
-  pub asks_in : (s : ℕ) → All (λ i. i.page < sizes.pages) (st.queue s)
+  pub asks_in : (s : ℕ) → AllByRecursion (λ i. i.page < sizes.pages) (st.queue s)
 
 -- a list that is not other than empty is empty
 empty_list : {X : Type 0} (l : List X) → (l ≢ [] → ⊥) → l ≡ []
@@ -47,12 +47,12 @@ module _ {V : Type 0} {sizes : Sizes} {st : State V} (w : Within sizes st) where
   unfolding left_queue
   far_left_queue leaves s t h = cond_both (leaves && eqb t s) (drop 1 (st.queue t)) (st.queue t) (λ l. l ≡ []) (λ _. rw (w.far_queue t h)) (λ _. w.far_queue t h)
 
-  left_asks_in : (leaves : Bool) (s t : ℕ) → All (λ i. i.page < sizes.pages) (left_queue leaves s st.queue t)
+  left_asks_in : (leaves : Bool) (s t : ℕ) → AllByRecursion (λ i. i.page < sizes.pages) (left_queue leaves s st.queue t)
   unfolding left_queue
-  left_asks_in leaves s t = cond_both (leaves && eqb t s) (drop 1 (st.queue t)) (st.queue t) (All (λ i. i.page < sizes.pages)) (λ _. All-drop _ 1 (st.queue t) (w.asks_in t)) (λ _. w.asks_in t)
+  left_asks_in leaves s t = cond_both (leaves && eqb t s) (drop 1 (st.queue t)) (st.queue t) (AllByRecursion (λ i. i.page < sizes.pages)) (λ _. All-drop _ 1 (st.queue t) (w.asks_in t)) (λ _. w.asks_in t)
 
   -- a station writes inside, and the home does
-  station_within : (s p : ℕ) (step : StationStep V) (posts : Posts V) (left : State V) → s < sizes.stations → p < sizes.pages → left.extents ≡ extents_of sizes → left.home ≡ st.home → left.cell ≡ st.cell → ((lane : Lane) (t : ℕ) → sizes.stations ≤ t → left.lane lane t ≡ []) → ((t : ℕ) → sizes.stations ≤ t → left.queue t ≡ []) → ((t : ℕ) → All (λ i. i.page < sizes.pages) (left.queue t)) → ((lane : Lane) (t : ℕ) → sizes.stations ≤ t → posts lane t ≡ []) → Within sizes (station_does s p step posts left)
+  station_within : (s p : ℕ) (step : StationStep V) (posts : Posts V) (left : State V) → s < sizes.stations → p < sizes.pages → left.extents ≡ extents_of sizes → left.home ≡ st.home → left.cell ≡ st.cell → ((lane : Lane) (t : ℕ) → sizes.stations ≤ t → left.lane lane t ≡ []) → ((t : ℕ) → sizes.stations ≤ t → left.queue t ≡ []) → ((t : ℕ) → AllByRecursion (λ i. i.page < sizes.pages) (left.queue t)) → ((lane : Lane) (t : ℕ) → sizes.stations ≤ t → posts lane t ≡ []) → Within sizes (station_does s p step posts left)
   station_within s p step posts left x z ext home cell lanes queues asks none-far =
       record {
         extents = ext;

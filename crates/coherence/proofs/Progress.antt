@@ -2,7 +2,7 @@
 -- an instruction.
 use Rattle.std.proofs.Common.{◌≡◌, ℕ, zero, suc, ◌<◌, ◌≤◌, Bool, true, false, cond, ◌&&◌, eqb, ◌≢◌, ◌⊎◌, List, [], ◌∷◌, length, Some, None, Option, refl, ap, ◌∙◌, subst, inl, inr, arith}
 use Rattle.std.specs.Option.{option_map}
-use Rattle.std.specs.List.{AllByRecursion as All, slice_get}
+use Rattle.std.specs.List.{AllByRecursion, slice_get}
 use Rattle.std.proofs.lemmas.Bool.{cases_lt, cases_Bool, eqb-true, eqb-false, and_parts, both_ways}
 use Rattle.messages.specs.declared.message.Kind.{Kind}
 use Rattle.messages.specs.declared.message.Kind.TheVariants.{ShReq, ExReq, WbRep, FlushRep}
@@ -172,7 +172,7 @@ some_waiting {X} f (suc n) = elim (some_waiting f n) [ inl h ↦ inl h | inr non
 nothing_first : {X : Type 0} (l : List X) (x : X) → l ≡ [] → slice_get l 0 ≡ Some x → ⊥
 nothing_first l x e f = let z : ◌≡◌ {A = ℕ} 0 1 = cc in let w : ⊥ = omega arith in w
 
-first_asks_in : {V : Type 0} {pages : ℕ} (l : List (Instruction V)) (x : Instruction V) → All (λ i. i.page < pages) l → slice_get l 0 ≡ Some x → x.page < pages
+first_asks_in : {V : Type 0} {pages : ℕ} (l : List (Instruction V)) (x : Instruction V) → AllByRecursion (λ i. i.page < pages) l → slice_get l 0 ≡ Some x → x.page < pages
 first_asks_in [] x a e = let z : ◌≡◌ {A = ℕ} 0 1 = cc in let w : ⊥ = omega arith in absurd w
 first_asks_in {pages = pages} (y ∷ l) x a e = let same : y ≡ x = cc in subst (λ i. i.page < pages) same a.0
 

@@ -2,7 +2,7 @@
 use Rattle.std.proofs.Common.{◌≡◌, ℕ, ◌+◌, ◌<◌, ◌≤◌, ◌≢◌, List, [], ◌∷◌, ◌++◌, Some, Option, sym, refl, ap, ◌∙◌, subst, inl, inr, lt_of_lt_of_le, arith}
 use mathlib.Core.Path.{fun_ext}
 use Rattle.std.specs.Option.{option_map}
-use Rattle.std.specs.List.{AllByRecursion as All}
+use Rattle.std.specs.List.{AllByRecursion}
 use Rattle.std.proofs.ByRecursion.{All-push}
 use Rattle.registers.specs.Sets.{station_limit, nobody, how_many}
 use Rattle.registers.proofs.Counting.{nobody_is_none}
@@ -202,7 +202,7 @@ module _ {V : Type 0} (sizes : Sizes) (v : V) where
           off_home = w.off_home;
           far_lane = w.far_lane;
           far_queue = λ t far. let n : t ≢ s = omega arith in entry_other st.queue s _ t n ∙ w.far_queue t far;
-          asks_in = at_and_beside (λ t. All (λ i. i.page < sizes.pages) (with_entry st.queue s (st.queue s ++ i ∷ []) t)) s (simp entry_same (All-push _ (st.queue s) i (w.asks_in s) z)) (λ t n. simp entry_other (w.asks_in t));
+          asks_in = at_and_beside (λ t. AllByRecursion (λ i. i.page < sizes.pages) (with_entry st.queue s (st.queue s ++ i ∷ []) t)) s (simp entry_same (All-push _ (st.queue s) i (w.asks_in s) z)) (λ t n. simp entry_other (w.asks_in t));
         };
         told = (λ p u y. elim y [ ], g.told);
         ordered = at_and_beside (λ t. InOrder (answers_of t h) (issues_of t (Issued s i ∷ h)) (with_entry st.queue s (st.queue s ++ i ∷ []) t)) s (simp (eqb_same, entry_same) (one_issued (answers_of s h) (issues_of s h) (st.queue s) i (g.ordered s))) (λ t n. simp (eqb_other, entry_other) (g.ordered t));

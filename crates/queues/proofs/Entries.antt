@@ -1,6 +1,6 @@
 -- What the calls of a table do to the rows of any list of entries. Assumes nothing.
 use Rattle.std.proofs.Common.{◌≡◌, ℕ, ◌+◌, ◌-◌, ◌<◌, ◌≤◌, Bool, true, false, ◌&&◌, ltb, ◌≢◌, List, [], ◌∷◌, ◌++◌, length, get_or, take, drop, set, Some, None, sym, refl, ap, ◌∙◌, subst, ⊎_elim, arith}
-use Rattle.std.specs.List.{AllByRecursion as All, slice_get}
+use Rattle.std.specs.List.{AllByRecursion, slice_get}
 use Rattle.std.proofs.lemmas.List.{length-append, length-set, length-take, length-drop, drop_more, drop-set-lt, take-set-le, drop-set-add, get_or-set_same, flat_map_more}
 use Rattle.std.proofs.lemmas.Bool.{cond-true, cond-false, cases_Bool, cases_lt}
 use Rattle.queues.specs.View.{RowsView, changed, with_row, can_put, after_put, can_drop, after_drop, most_rows, most_places, fitting, empty_rows, made_rows}
@@ -28,7 +28,7 @@ module _ {X : Type 0} where
 
 -- the entries at a list of places
 module _ {X : Type 0} (xs : List X) where
-  pub length_entries : (places : List ℕ) → All (λ place. place < length xs) places → length (entries_at xs places) ≡ length places
+  pub length_entries : (places : List ℕ) → AllByRecursion (λ place. place < length xs) places → length (entries_at xs places) ≡ length places
   unfolding entries_at
   length_entries [] h = refl
   length_entries (place ∷ more) h =
@@ -36,19 +36,19 @@ module _ {X : Type 0} (xs : List X) where
       let rest = length_entries more h.1 in
       simp length-append (omega arith)
 
-  entries_kept : (written : ℕ) (x : X) (places : List ℕ) → All (λ used. used ≢ written) places → entries_at (set xs written x) places ≡ entries_at xs places
+  entries_kept : (written : ℕ) (x : X) (places : List ℕ) → AllByRecursion (λ used. used ≢ written) places → entries_at (set xs written x) places ≡ entries_at xs places
   unfolding entries_at
   entries_kept written x [] h = refl
   entries_kept written x (place ∷ more) h = λ i. entry_other xs written place x h.0 i ++ entries_kept written x more h.1 i
 
-  entries_longer : (written : ℕ) (x : X) (places : List ℕ) → written < length xs → All (λ used. used ≢ written) places → entries_at (set xs written x) (places ++ written ∷ []) ≡ entries_at xs places ++ x ∷ []
+  entries_longer : (written : ℕ) (x : X) (places : List ℕ) → written < length xs → AllByRecursion (λ used. used ≢ written) places → entries_at (set xs written x) (places ++ written ∷ []) ≡ entries_at xs places ++ x ∷ []
   unfolding entries_at
   entries_longer written x places h free =
       let l : written < length (set xs written x) = omega (arith, length-set xs written x) in
       sym (flat_map_more (λ place. take 1 (drop place (set xs written x))) [] places written)
       ∙ (λ i. entries_kept written x places free i ++ (entry_at (set xs written x) written x l ∙ ap (λ y. y ∷ []) (get_or-set_same xs written x x h)) i)
 
-  entries_shorter : (places : List ℕ) → All (λ place. place < length xs) places → entries_at xs (drop 1 places) ≡ drop 1 (entries_at xs places)
+  entries_shorter : (places : List ℕ) → AllByRecursion (λ place. place < length xs) places → entries_at xs (drop 1 places) ≡ drop 1 (entries_at xs places)
   unfolding entries_at
   entries_shorter [] h = refl
   entries_shorter (place ∷ more) h = after_one (take 1 (drop place xs)) (entries_at xs more) (simp (length-take, length-drop) (omega (arith, h.0)))
@@ -58,7 +58,7 @@ module _ {X : Type 0} (xs : List X) where
       after_one (x ∷ []) rest e = refl
       after_one (x ∷ y ∷ more) rest e = let z : ⊥ = omega arith in absurd z
 
-  first_entry : (place : ℕ) (x : X) (places : List ℕ) → All (λ p. p < length xs) places → Some place ≡ slice_get places 0 → x ≡ get_or xs place x → Some x ≡ slice_get (entries_at xs places) 0
+  first_entry : (place : ℕ) (x : X) (places : List ℕ) → AllByRecursion (λ p. p < length xs) places → Some place ≡ slice_get places 0 → x ≡ get_or xs place x → Some x ≡ slice_get (entries_at xs places) 0
   unfolding entries_at
   first_entry place x [] h e f = let z : ◌≡◌ {A = ℕ} 0 1 = cc in let w : ⊥ = omega arith in absurd w
   first_entry place x (first ∷ more) h e f =
@@ -72,8 +72,8 @@ module _ {X : Type 0} (xs : List X) where
 
 -- A table over `n` entries, `xs`, and what its answers about places say of the entries.
 module _ {X : Type 0} (xs : List X) (n : ℕ) (en : n ≡ length xs) (t : Table) (row : ℕ) where
-  inside : (r : ℕ) → All (λ place. place < length xs) ((places_in n t).row r)
-  inside r = subst (λ m. All (λ place. place < m) ((places_in n t).row r)) en (places_in_lem n t r)
+  inside : (r : ℕ) → AllByRecursion (λ place. place < length xs) ((places_in n t).row r)
+  inside r = subst (λ m. AllByRecursion (λ place. place < m) ((places_in n t).row r)) en (places_in_lem n t r)
 
   -- the view over as many entries
   view_is : (ys : List X) (t' : Table) → length ys ≡ length xs → view_in ys t' ≡ entries_of ys (places_in n t')
@@ -91,7 +91,7 @@ module _ {X : Type 0} (xs : List X) (n : ℕ) (en : n ≡ length xs) (t : Table)
   pub oldest_inside : (place : ℕ) → Some place ≡ slice_get ((places_in n t).row row) 0 → place < length xs
   oldest_inside place e = first ((places_in n t).row row) (inside row) e
     where
-      first : (places : List ℕ) → All (λ p. p < length xs) places → Some place ≡ slice_get places 0 → place < length xs
+      first : (places : List ℕ) → AllByRecursion (λ p. p < length xs) places → Some place ≡ slice_get places 0 → place < length xs
       first [] h e = let z : ◌≡◌ {A = ℕ} 0 1 = cc in let w : ⊥ = omega arith in absurd w
       first (p ∷ more) h e = let same : place ≡ p = cc in omega (arith, h.0)
 

@@ -1,7 +1,7 @@
 -- The places of a row, which are used round and round. Assumes nothing.
 use Rattle.std.proofs.Common.{◌≡◌, ℕ, zero, suc, ◌+◌, ◌-◌, ◌*◌, ◌/◌, ◌%◌, ◌<◌, ◌≤◌, ◌≢◌, [], ◌∷◌, ◌++◌, length, drop, Some, sym, refl, ap, ◌∙◌, ⊎_elim, mod-lt, add-mul, one-mul, arith}
 use native.Mathlib.Nat.{mod-mod, mod-add-mod}
-use Rattle.std.specs.List.{range_with_len, AllByRecursion as All, slice_get}
+use Rattle.std.specs.List.{range_with_len, AllByRecursion, slice_get}
 use Rattle.std.proofs.lemmas.Nat.{mul-le, div-add-mod'}
 use Rattle.std.proofs.lemmas.List.FromFn.{length-map-range_with_len, map-range_with_len_more}
 use Rattle.std.proofs.ByRecursion.{All-map}
@@ -21,7 +21,7 @@ apart a b places h k = λ e.
     (λ other. ⊎_elim (λ lt. omega (arith, row_below (a / places) (b / places) places lt)) (λ gt. omega (arith, row_below (b / places) (a / places) places gt)) other)
     (cases_order (a / places) (b / places))
 
-all_counting : (P : ℕ → Type 0) (a n : ℕ) → ((k : ℕ) → a ≤ k → k < a + n → P k) → All P (range_with_len a n)
+all_counting : (P : ℕ → Type 0) (a n : ℕ) → ((k : ℕ) → a ≤ k → k < a + n → P k) → AllByRecursion P (range_with_len a n)
 all_counting P a zero f = tt
 all_counting P a (suc n) f = (f a (omega arith) (omega arith), all_counting P (a + 1) n (λ k g h. f k (omega arith) (omega arith)))
 
@@ -33,7 +33,7 @@ module _ (places row : ℕ) where
   first_place column zero h = let z : ⊥ = omega arith in absurd z
   first_place column (suc count) h = refl
 
-  pub places_inside : (rows entries column count : ℕ) → row < rows → rows * places ≤ entries → count ≤ places → All (λ place. place < entries) (places_from places row column count)
+  pub places_inside : (rows entries column count : ℕ) → row < rows → rows * places ≤ entries → count ≤ places → AllByRecursion (λ place. place < entries) (places_from places row column count)
   places_inside rows entries column count h fits g =
       All-map (λ place. place < entries) (λ k. row * places + k % places) (range_with_len column count)
       (all_counting _ column count (λ k low high. omega (arith, row_below row rows places h, mod-lt k {m = places} (omega arith))))
@@ -57,13 +57,13 @@ module _ (places row : ℕ) where
 
   -- the place after those in use is none of them
   module _ (column count : ℕ) (room : count < places) where
-    pub free_here : All (λ used. used ≢ row * places + (column + count) % places) (places_from places row column count)
+    pub free_here : AllByRecursion (λ used. used ≢ row * places + (column + count) % places) (places_from places row column count)
     free_here =
         All-map (λ used. used ≢ row * places + (column + count) % places) (λ k. row * places + k % places) (range_with_len column count)
         (all_counting _ column count (λ k low high e. apart k (column + count) places high (omega arith) (omega arith)))
 
     -- nor one of another row's
-    pub free_there : (other start many : ℕ) → other ≢ row → All (λ used. used ≢ row * places + (column + count) % places) (places_from places other start many)
+    pub free_there : (other start many : ℕ) → other ≢ row → AllByRecursion (λ used. used ≢ row * places + (column + count) % places) (places_from places other start many)
     free_there other start many ne =
         All-map (λ used. used ≢ row * places + (column + count) % places) (λ k. other * places + k % places) (range_with_len start many)
         (all_counting _ start many (λ k low high e.

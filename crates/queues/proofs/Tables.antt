@@ -1,6 +1,6 @@
 -- What a table's rows are, before and after its calls. Assumes nothing.
 use Rattle.std.proofs.Common.{◌≡◌, ℕ, ◌+◌, ◌-◌, ◌*◌, ◌%◌, ◌<◌, ◌≤◌, Bool, true, false, cond, eqb, ltb, leb, ◌≢◌, List, [], ◌∷◌, ◌++◌, length, drop, set, replicate, Some, None, sym, refl, ap, ◌∙◌, subst, ⊎_elim, mod-lt, mod-eq_of_lt, arith}
-use Rattle.std.specs.List.{AllByRecursion as All, slice_get}
+use Rattle.std.specs.List.{AllByRecursion, slice_get}
 use Rattle.std.proofs.lemmas.List.{get_or-set_same, get_or-set_other, get_or-replicate, get_or_past, length-replicate, nil_from_length}
 use Rattle.std.proofs.lemmas.Bool.{cond-true, cond-false, cond_both, lt-ltb, le-ltb, ltb-true, ltb-false, leb-true, le-leb, eq-eqb, ne_eqb, cases_Bool, cases_eq, cases_lt, and_from, and_right}
 use Rattle.queues.specs.View.{RowsView, changed, with_row, can_put, can_drop, after_drop, most_rows, empty_rows}
@@ -82,12 +82,12 @@ module _ (entries : ℕ) (t : Table) (row : ℕ) where
       ⊎_elim (λ lt. lt) (λ ge. let z : position.waiting ≡ 0 = ap (λ (p : Position). p.waiting) (cond-false _ _ _ (le-ltb row _ ge)) in let w : ⊥ = omega arith in absurd w) (cases_lt row (served entries t.rows t.places))
 
   -- the places of a row lie among the entries
-  pub places_in_lem : All (λ place. place < entries) ((places_in entries t).row row)
+  pub places_in_lem : AllByRecursion (λ place. place < entries) ((places_in entries t).row row)
   unfolding row_places
   places_in_lem =
       ⊎_elim
       (λ h. let e = enough h in places_inside t.places row t.rows entries position.oldest position.waiting e.0 e.1 position_within.1)
-      (λ h. subst (All (λ place. place < entries)) (sym (row_missing h)) tt)
+      (λ h. subst (AllByRecursion (λ place. place < entries)) (sym (row_missing h)) tt)
       (cases_lt row (served entries t.rows t.places))
 
   pub oldest_is : (column place : ℕ) → Some column ≡ oldest_column position → place ≡ row * t.places + column → Some place ≡ slice_get ((places_in entries t).row row) 0
@@ -108,12 +108,12 @@ module _ (entries : ℕ) (t : Table) (row : ℕ) where
   row_full e = record { full = and_right _ _ (ap (λ n. ltb n t.places) (sym waiting_is) ∙ none_cond _ _ e); same = refl }
 
   -- the place after the newest of a row is in no row
-  free_in : position.waiting < t.places → (other : ℕ) → All (λ used. used ≢ row * t.places + (position.oldest + position.waiting) % t.places) ((places_in entries t).row other)
+  free_in : position.waiting < t.places → (other : ℕ) → AllByRecursion (λ used. used ≢ row * t.places + (position.oldest + position.waiting) % t.places) ((places_in entries t).row other)
   unfolding row_places
   free_in space other =
       let next : ℕ = row * t.places + (position.oldest + position.waiting) % t.places in
       ⊎_elim
-      (λ same. subst (λ r. All (λ used. used ≢ next) ((places_in entries t).row r)) (sym same) (free_here t.places row position.oldest position.waiting space))
+      (λ same. subst (λ r. AllByRecursion (λ used. used ≢ next) ((places_in entries t).row r)) (sym same) (free_here t.places row position.oldest position.waiting space))
       (λ ne. free_there t.places row position.oldest position.waiting space other _ _ ne)
       (cases_eq other row)
 
@@ -144,7 +144,7 @@ module _ (entries : ℕ) (t : Table) (row : ℕ) where
         record {
           room = room;
           inside = omega (arith, row_below row t.rows t.places (enough h).0, (enough h).1, mod-lt (position.oldest + position.waiting) {m = t.places} (omega arith));
-          free = subst (λ n. (other : ℕ) → All (λ used. used ≢ n) ((places_in entries t).row other)) (sym is) (free_in space);
+          free = subst (λ n. (other : ℕ) → AllByRecursion (λ used. used ≢ n) ((places_in entries t).row other)) (sym is) (free_in space);
           newest = moved ∙ ap (with_row (places_in entries t) row) list ∙ sym (cond-true _ _ _ room);
         }
 

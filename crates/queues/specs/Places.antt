@@ -1,6 +1,6 @@
 -- The places of the waiting entries of a table's rows, and the entries that lie there in any list. Assumes nothing.
 use Rattle.std.specs.Prelude.{◌≡◌, ℕ, ◌+◌, ◌*◌, ◌%◌, ◌<◌, true, false, cond, ◌≢◌, List, map, length, take, drop, Ok, Err, Result, nat_le, nat_lt}
-use Rattle.std.specs.List.{range_with_len, flat_map, AllByRecursion as All}
+use Rattle.std.specs.List.{range_with_len, flat_map, AllByRecursion}
 use Rattle.queues.specs.View.{RowsView, can_put, after_put}
 use Rattle.queues.specs.Positions.{nothing, position_of}
 use Rattle.queues.specs.declared.denied.Denied.{Denied}
@@ -55,7 +55,7 @@ view_of q = view_in q.entries.now q.table
 pub record Taken (entries row place : ℕ) (before after : RowsView ℕ) : Type 0 where
   pub room : can_put before row ≡ true
   pub inside : place < entries
-  pub free : (other : ℕ) → All (λ used. used ≢ place) (before.row other)
+  pub free : (other : ℕ) → AllByRecursion (λ used. used ≢ place) (before.row other)
   pub newest : after ≡ after_put before row place
 
 pub record NotTaken (row : ℕ) (before after : RowsView ℕ) : Type 0 where

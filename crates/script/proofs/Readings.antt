@@ -1,5 +1,5 @@
 -- What comes next in a script is one thing, and the bytes of a record read as that record. Assumes nothing.
-use Rattle.std.proofs.Common.{◌≡◌, ℕ, ◌+◌, ◌-◌, ◌*◌, ◌/◌, ◌%◌, ◌<◌, ◌≤◌, Bool, true, cond, eqb, ◌⊎◌, List, [], ◌∷◌, ◌++◌, length, get_or, drop, Ok, Err, Result, sym, refl, ap, ◌∙◌, inl, inr, ⊎_elim, arith, length-append}
+use Rattle.std.proofs.Common.{◌≡◌, ℕ, ◌+◌, ◌-◌, ◌*◌, ◌/◌, ◌%◌, ◌<◌, ◌≤◌, Bool, cond, eqb, ◌⊎◌, List, [], ◌++◌, length, get_or, drop, Ok, Err, Result, sym, refl, ap, ◌∙◌, inl, inr, ⊎_elim, arith, length-append}
 use Rattle.protocol.specs.declared.firing.FiringKind.{FiringKind}
 use Rattle.protocol.specs.declared.firing.FiringKind.TheVariants.{Work, Receive, Collect, Serve}
 use Rattle.messages.specs.Bytes.{field}
@@ -10,7 +10,7 @@ use Rattle.script.specs.declared.fault.FaultKind.TheVariants.{TooLong, HeaderCut
 use Rattle.script.specs.declared.record.Record.{Record}
 use Rattle.script.specs.declared.record.Record.TheVariants.{Prepare, Set, Start, Load, Store, Fire, Close, Readout}
 use Rattle.script.specs.Fields.{Found, end, one, broken, announced, Cut, Front}
-use Rattle.script.specs.Records.{Piece, tag_of, body_of, body_sizes, OfValue, Holds, RightLength, Fails, Says, Outcome, done, entry, faulty, of_field, Next, ended, cut, padded, told}
+use Rattle.script.specs.Records.{Piece, tag_of, body_of, body_sizes, OfValue, Holds, RightLength, Fails, Says, Outcome, faulty, of_field, Next, ended, cut, padded, told}
 use Rattle.script.specs.Readings.{OneThingComesNext, RecordsReadBack}
 
 same_fault : (f g : Fault) → f.kind ≡ g.kind → f.at ≡ g.at → f ≡ g

@@ -2,7 +2,7 @@
 use Rattle.std.specs.Prelude.{◌≡◌, ℕ, ◌+◌, ◌-◌, ◌<◌, ◌≤◌, Bool, true, List, [], ◌∷◌, ◌++◌, length, drop, Some, None, Ok, Err, Option, Result, ◌≢◌, slice_index}
 use Rattle.std.specs.Option.{option_map}
 use Rattle.protocol.specs.Firings.{firing_number}
-use Rattle.messages.specs.Bytes.{word, field}
+use Rattle.messages.specs.Bytes.{word}
 use Rattle.script.specs.declared.fault.FaultKind.{FaultKind}
 use Rattle.script.specs.declared.fault.FaultKind.TheVariants.{TooLong, HeaderCut, BodyCut, UnknownTag, WrongLength, Unreadable}
 use Rattle.script.specs.declared.fault.Fault.{Fault}

@@ -2,8 +2,8 @@ use Rattle.std.proofs.Common.{refl, true-eqb}
 use Rattle.script.proofs.Fronts.{empty, body_cut}
 use Rattle.script.proofs.field.front.Goals as goal
 
-pub returns-then-is-empty : goal.returns-then-is-empty
-returns-then-is-empty c = empty _ (true-eqb _ 0 c.if-is-empty.ensures)
+pub returns-then-is_empty : goal.returns-then-is_empty
+returns-then-is_empty c = empty _ (true-eqb _ 0 c.if-is_empty.ensures)
 
 pub returns-in-Some : goal.returns-in-Some
 returns-in-Some c = (refl, (c.in-Some.field-0-2.now, c.in-Some.ensures))

@@ -5,18 +5,18 @@ use Rattle.script.proofs.Fronts.{left_is}
 use Rattle.script.proofs.Bodies.{station_page_then, value_broken, store_reads}
 use Rattle.script.proofs.records.store.Goals as goal
 
-pub returns-in-err-value : goal.returns-in-err-value
-returns-in-err-value g c =
-    let p = err_from_is_err_and c.from-residual.result c.from-residual.ensures.1 in
+pub returns-in_err-value : goal.returns-in_err-value
+returns-in_err-value g c =
+    let p = err_from_is_err_and c.from_residual.result c.from_residual.ensures.1 in
     rw (p.1, p.2)
-    (value_broken g.V.Value.width (λ bytes. is_some (g.V.Value.reads bytes)) 5 3 c.args.body.now _ c.args.at _ (search rules) refl (search rules) (left_is c.args.body.now 3) (store_reads _ _ c.args.body.now c.args.at) c.in-err-value.ensures)
+    (value_broken g.V.Value.width (λ bytes. is_some (g.V.Value.reads bytes)) 5 3 c.args.body.now _ c.args.at _ (search rules) refl (search rules) (left_is c.args.body.now 3) (store_reads _ _ c.args.body.now c.args.at) c.in_err-value.ensures)
 
 pub returns : goal.returns
 returns g c =
-    let value = c.in-ok-value.ensures in
+    let value = c.in_ok-value.ensures in
     record {
       tagged = refl;
-      bodied = station_page_then c.args.body.now _ _ (search rules) c.from-be-bytes.ensures (search rules) (ap (λ (p : Piece). p.bytes) value.2 ∙ left_is c.args.body.now 3);
+      bodied = station_page_then c.args.body.now _ _ (search rules) c.from_be_bytes.ensures (search rules) (ap (λ (p : Piece). p.bytes) value.2 ∙ left_is c.args.body.now 3);
       wide = ap (λ (p : Piece). length p.bytes) value.2 ∙ value.0;
       reads = ap (λ (p : Piece). is_some (g.V.Value.reads p.bytes)) value.2 ∙ value.1;
       placed = ap (λ (p : Piece). p.at) value.2;

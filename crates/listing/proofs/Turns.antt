@@ -1,12 +1,12 @@
 -- One turn of the listing: a line after those so far. Assumes nothing.
-use Rattle.std.proofs.Common.{◌≡◌, ℕ, ◌+◌, ◌-◌, ◌<◌, ◌≤◌, true, false, List, [], ◌∷◌, ◌++◌, length, is_some, Some, None, Option, sym, refl, ap, ◌∙◌, append_assoc, append-nil}
+use Rattle.std.proofs.Common.{◌≡◌, ℕ, ◌+◌, ◌≤◌, true, false, List, [], ◌++◌, length, is_some, Some, None, Option, sym, ap, ◌∙◌, append_assoc, append-nil}
 use Rattle.std.proofs.lemmas.Bool.{true≢false}
 use Rattle.script.specs.declared.fault.Fault.{Fault}
 use Rattle.script.specs.declared.record.Record.{Record}
 use Rattle.script.specs.Records.{Piece, record_as, decoded, Outcome, done, entry, faulty, Next}
 use Rattle.script.proofs.Nexts.{forward, entry_reads, decodes}
 use Rattle.listing.specs.declared.words.ListedValue.{ListedValue}
-use Rattle.listing.specs.Lines.{record_line, fault_line, Lines, ended, broken, told, Listing, listed}
+use Rattle.listing.specs.Lines.{record_line, fault_line, Lines, ended, broken, told}
 
 -- `held` is what the reader's slice holds, and `found` what it found at the byte `at`
 module _ {V : Type 0} (width : ℕ) (reads : List ℕ → Option V) (said : V → ListedValue) (script held : List ℕ) (same : held ≡ script) (number at to : ℕ) (found : Outcome) (comes : Next width (λ bytes. is_some (reads bytes)) held at found to) where

@@ -34,7 +34,7 @@ pub fn fault_line(heap: Global, number: u32, fault: Fault) -> Result<String, All
 
 // The record in words, with its value as a listing says it.
 fn in_words<V: Listed>(decoded: Record<V>) -> Record<ListedValue>
-    ensures { result ≡ record_as said decoded }
+    ensures { result ≡ record_as V.said decoded }
 {
     match decoded {
         Record::Prepare {
@@ -70,7 +70,7 @@ fn in_words<V: Listed>(decoded: Record<V>) -> Record<ListedValue>
 // The listing of a script of values of the kind `V`. Want of memory is the one error, and no contract can say
 // when it comes.
 pub fn list<V: Listed>(heap: Global, script: &[u8]) -> Result<String, AllocError>
-    ensures { IfOk result (λ text. Listing V.Value.width V.Value.reads said script.now (string_bytes text)) }
+    ensures { IfOk result (λ text. Listing V.width V.reads V.said script.now (string_bytes text)) }
 {
     let mut reader = match Reader::new(script) {
         Ok(reader) => reader,

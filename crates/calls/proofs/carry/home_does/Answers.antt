@@ -4,8 +4,8 @@ use Rattle.calls.specs.Lanes.{space_for_all}
 use Rattle.calls.proofs.Carrying.{all_kept}
 use Rattle.calls.proofs.carry.home_does.Goals as goal
 
-pub send-down-requires : goal.send-down-requires
-send-down-requires g c =
+pub send_down-requires : goal.send_down-requires
+send_down-requires g c =
     let sends = sends_meaning g.D.Register.names c.args.step.sends in
     ap (λ v. space_for_all v sends) c.leave.ensures
     ∙ all_kept (g.L.Links.view c.args.links.now) _ c.args.from c.args.station sends c.requires.1.1.0

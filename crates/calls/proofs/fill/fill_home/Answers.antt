@@ -12,7 +12,7 @@ loop-at-init g c = below_none (λ q. pages_of g.D.Register.names c.args.value c.
 
 pub loop-at-preserved : goal.loop-at-preserved
 loop-at-preserved g c =
-    page_next g.D.Register.names c.args.value c.loop-at.home c.write-page.new.home c.loop-at.at _ (c.write-page.ensures c.args.value) (λ i. page c.args.value (R (c.empty.ensures i))) c.loop-at.invariant
+    page_next g.D.Register.names c.args.value c.loop-at.home c.write_page.new.home c.loop-at.at _ (c.write_page.ensures c.args.value) (λ i. page c.args.value (R (c.empty.ensures i))) c.loop-at.invariant
 
 pub returns : goal.returns
 returns g c = pages_filled g.D.Register.names c.args.value c.loop-at.home c.loop-at.at (omega arith) c.loop-at.invariant

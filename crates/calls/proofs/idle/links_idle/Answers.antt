@@ -9,7 +9,7 @@ loop-station-init g c = below_none (λ s. (lane : Lane) → (g.L.Links.view c.ar
 
 pub loop-station-preserved : goal.loop-station-preserved
 loop-station-preserved g c =
-    below_next (λ s. (lane : Lane) → (g.L.Links.view c.args.links.now).waiting lane s ≡ []) c.loop-station.station c.loop-station.invariant (c.if-not-lanes-idle.ensures.0 refl)
+    below_next (λ s. (lane : Lane) → (g.L.Links.view c.args.links.now).waiting lane s ≡ []) c.loop-station.station c.loop-station.invariant (c.if-not-lanes_idle.ensures.0 refl)
 
 pub returns : goal.returns
 returns g c = lanes_idle (g.L.Links.view c.args.links.now) c.loop-station.station (g.L.Links.sound c.args.links.now) c.loop-station-test.false c.loop-station.invariant

@@ -14,10 +14,10 @@ returns-then-page-sizes g c =
       silent = tt;
     }
 
-pub returns-in-default-collect : goal.returns-in-default-collect
-returns-in-default-collect g c =
+pub returns-in_default-collect : goal.returns-in_default-collect
+returns-in_default-collect g c =
     record {
-      plan = λ v cells rows extents. collect_no_rule (plain c.args.sizes) (g.L.Links.view c.args.links.now) c.args.station (pages_of g.D.Register.names v c.args.home.now) cells rows extents g.D.Register.names g.met.D.Register.high c.in-Some.message c.read-page.result (c.read-page.ensures v) c.in-Some.ensures (omega arith) c.in-default-collect.ensures;
+      plan = λ v cells rows extents. collect_no_rule (plain c.args.sizes) (g.L.Links.view c.args.links.now) c.args.station (pages_of g.D.Register.names v c.args.home.now) cells rows extents g.D.Register.names g.met.D.Register.high c.in-Some.message c.read_page.result (c.read_page.ensures v) c.in-Some.ensures (omega arith) c.in_default-collect.ensures;
       inside = tt;
       silent = tt;
     }
@@ -25,7 +25,7 @@ returns-in-default-collect g c =
 pub returns : goal.returns
 returns g c =
     record {
-      plan = λ v cells rows extents. collect_planned (plain c.args.sizes) (g.L.Links.view c.args.links.now) c.args.station (pages_of g.D.Register.names v c.args.home.now) cells rows extents g.D.Register.names g.met.D.Register.high c.in-Some.message c.read-page.result (c.read-page.ensures v) c.in-Some.ensures c.in-Some-collect.step (omega arith) c.in-Some-collect.ensures;
+      plan = λ v cells rows extents. collect_planned (plain c.args.sizes) (g.L.Links.view c.args.links.now) c.args.station (pages_of g.D.Register.names v c.args.home.now) cells rows extents g.D.Register.names g.met.D.Register.high c.in-Some.message c.read_page.result (c.read_page.ensures v) c.in-Some.ensures c.in-Some-collect.step (omega arith) c.in-Some-collect.ensures;
       inside = omega arith;
-      silent = collect_silent g.D.Register.names g.met.D.Register.high c.args.station c.read-page.result c.in-Some.message.kind c.in-Some-collect.step c.in-Some-collect.ensures;
+      silent = collect_silent g.D.Register.names g.met.D.Register.high c.args.station c.read_page.result c.in-Some.message.kind c.in-Some-collect.step c.in-Some-collect.ensures;
     }

@@ -14,18 +14,18 @@ returns-then-page-sizes g c =
       space = tt;
     }
 
-pub returns-in-default-receive : goal.returns-in-default-receive
-returns-in-default-receive g c =
+pub returns-in_default-receive : goal.returns-in_default-receive
+returns-in_default-receive g c =
     record {
-      plan = λ home rows extents. receive_no_rule (plain c.args.sizes) (g.L.Links.view c.args.links.now) c.args.station home (cells_of c.args.sizes.stations c.args.sizes.pages c.args.cells.now) rows extents c.in-Some.message c.read-cell.result c.in-Some.ensures c.read-cell.ensures (omega arith) c.in-default-receive.ensures;
+      plan = λ home rows extents. receive_no_rule (plain c.args.sizes) (g.L.Links.view c.args.links.now) c.args.station home (cells_of c.args.sizes.stations c.args.sizes.pages c.args.cells.now) rows extents c.in-Some.message c.read_cell.result c.in-Some.ensures c.read_cell.ensures (omega arith) c.in_default-receive.ensures;
       inside = tt;
       space = tt;
     }
 
-pub returns-then-not-space-to-send : goal.returns-then-not-space-to-send
-returns-then-not-space-to-send g c =
+pub returns-then-not-space_to_send : goal.returns-then-not-space_to_send
+returns-then-not-space_to_send g c =
     record {
-      plan = λ home rows extents. receive_no_space (plain c.args.sizes) (g.L.Links.view c.args.links.now) c.args.station home (cells_of c.args.sizes.stations c.args.sizes.pages c.args.cells.now) rows extents c.in-Some.message c.read-cell.result c.in-Some.ensures c.read-cell.ensures (omega arith) (omega arith) c.in-Some-receive.step (omega arith) c.in-Some-receive.ensures (sym c.if-not-space-to-send.ensures);
+      plan = λ home rows extents. receive_no_space (plain c.args.sizes) (g.L.Links.view c.args.links.now) c.args.station home (cells_of c.args.sizes.stations c.args.sizes.pages c.args.cells.now) rows extents c.in-Some.message c.read_cell.result c.in-Some.ensures c.read_cell.ensures (omega arith) (omega arith) c.in-Some-receive.step (omega arith) c.in-Some-receive.ensures (sym c.if-not-space_to_send.ensures);
       inside = tt;
       space = tt;
     }
@@ -33,7 +33,7 @@ returns-then-not-space-to-send g c =
 pub returns : goal.returns
 returns g c =
     record {
-      plan = λ home rows extents. receive_planned (plain c.args.sizes) (g.L.Links.view c.args.links.now) c.args.station home (cells_of c.args.sizes.stations c.args.sizes.pages c.args.cells.now) rows extents c.in-Some.message c.read-cell.result c.in-Some.ensures c.read-cell.ensures (omega arith) (omega arith) c.in-Some-receive.step (omega arith) c.in-Some-receive.ensures (sym c.if-not-space-to-send.ensures);
+      plan = λ home rows extents. receive_planned (plain c.args.sizes) (g.L.Links.view c.args.links.now) c.args.station home (cells_of c.args.sizes.stations c.args.sizes.pages c.args.cells.now) rows extents c.in-Some.message c.read_cell.result c.in-Some.ensures c.read_cell.ensures (omega arith) (omega arith) c.in-Some-receive.step (omega arith) c.in-Some-receive.ensures (sym c.if-not-space_to_send.ensures);
       inside = omega arith;
-      space = sym c.if-not-space-to-send.ensures;
+      space = sym c.if-not-space_to_send.ensures;
     }

@@ -14,18 +14,18 @@ returns-then-page-sizes g c =
       space = tt;
     }
 
-pub returns-in-default-serve : goal.returns-in-default-serve
-returns-in-default-serve g c =
+pub returns-in_default-serve : goal.returns-in_default-serve
+returns-in_default-serve g c =
     record {
-      plan = λ v cells rows extents. serve_no_rule (plain c.args.sizes) (g.L.Links.view c.args.links.now) c.args.station (pages_of g.D.Register.names v c.args.home.now) cells rows extents g.D.Register.names g.met.D.Register.high c.in-Some.message c.read-page.result (c.read-page.ensures v) c.in-Some.ensures (omega arith) c.in-default-serve.ensures;
+      plan = λ v cells rows extents. serve_no_rule (plain c.args.sizes) (g.L.Links.view c.args.links.now) c.args.station (pages_of g.D.Register.names v c.args.home.now) cells rows extents g.D.Register.names g.met.D.Register.high c.in-Some.message c.read_page.result (c.read_page.ensures v) c.in-Some.ensures (omega arith) c.in_default-serve.ensures;
       inside = tt;
       space = tt;
     }
 
-pub returns-then-not-space-for-all : goal.returns-then-not-space-for-all
-returns-then-not-space-for-all g c =
+pub returns-then-not-space_for_all : goal.returns-then-not-space_for_all
+returns-then-not-space_for_all g c =
     record {
-      plan = λ v cells rows extents. serve_no_space (plain c.args.sizes) (g.L.Links.view c.args.links.now) c.args.station (pages_of g.D.Register.names v c.args.home.now) cells rows extents g.D.Register.names g.met.D.Register.high c.in-Some.message c.read-page.result (c.read-page.ensures v) c.in-Some.ensures (omega arith) (omega arith) c.in-Some-serve.step (omega arith) c.in-Some-serve.ensures (sym c.if-not-space-for-all.ensures);
+      plan = λ v cells rows extents. serve_no_space (plain c.args.sizes) (g.L.Links.view c.args.links.now) c.args.station (pages_of g.D.Register.names v c.args.home.now) cells rows extents g.D.Register.names g.met.D.Register.high c.in-Some.message c.read_page.result (c.read_page.ensures v) c.in-Some.ensures (omega arith) (omega arith) c.in-Some-serve.step (omega arith) c.in-Some-serve.ensures (sym c.if-not-space_for_all.ensures);
       inside = tt;
       space = tt;
     }
@@ -33,7 +33,7 @@ returns-then-not-space-for-all g c =
 pub returns : goal.returns
 returns g c =
     record {
-      plan = λ v cells rows extents. serve_planned (plain c.args.sizes) (g.L.Links.view c.args.links.now) c.args.station (pages_of g.D.Register.names v c.args.home.now) cells rows extents g.D.Register.names g.met.D.Register.high c.in-Some.message c.read-page.result (c.read-page.ensures v) c.in-Some.ensures (omega arith) (omega arith) c.in-Some-serve.step (omega arith) c.in-Some-serve.ensures (sym c.if-not-space-for-all.ensures);
+      plan = λ v cells rows extents. serve_planned (plain c.args.sizes) (g.L.Links.view c.args.links.now) c.args.station (pages_of g.D.Register.names v c.args.home.now) cells rows extents g.D.Register.names g.met.D.Register.high c.in-Some.message c.read_page.result (c.read_page.ensures v) c.in-Some.ensures (omega arith) (omega arith) c.in-Some-serve.step (omega arith) c.in-Some-serve.ensures (sym c.if-not-space_for_all.ensures);
       inside = omega arith;
-      space = sym c.if-not-space-for-all.ensures;
+      space = sym c.if-not-space_for_all.ensures;
     }

@@ -15,18 +15,18 @@ returns-then-page-sizes g c =
       space = tt;
     }
 
-pub returns-in-default-work : goal.returns-in-default-work
-returns-in-default-work g c =
+pub returns-in_default-work : goal.returns-in_default-work
+returns-in_default-work g c =
     record {
-      plan = λ home extents. work_no_rule (plain c.args.sizes) (g.L.Links.view c.args.links.now) c.args.station home (cells_of c.args.sizes.stations c.args.sizes.pages c.args.cells.now) (view_of c.args.queues.now).row extents c.in-Some.instruction c.read-cell.result c.in-Some.ensures c.read-cell.ensures (omega arith) c.in-default-work.ensures;
+      plan = λ home extents. work_no_rule (plain c.args.sizes) (g.L.Links.view c.args.links.now) c.args.station home (cells_of c.args.sizes.stations c.args.sizes.pages c.args.cells.now) (view_of c.args.queues.now).row extents c.in-Some.instruction c.read_cell.result c.in-Some.ensures c.read_cell.ensures (omega arith) c.in_default-work.ensures;
       inside = tt;
       space = tt;
     }
 
-pub returns-then-not-space-to-send : goal.returns-then-not-space-to-send
-returns-then-not-space-to-send g c =
+pub returns-then-not-space_to_send : goal.returns-then-not-space_to_send
+returns-then-not-space_to_send g c =
     record {
-      plan = λ home extents. work_no_space (plain c.args.sizes) (g.L.Links.view c.args.links.now) c.args.station home (cells_of c.args.sizes.stations c.args.sizes.pages c.args.cells.now) (view_of c.args.queues.now).row extents c.in-Some.instruction c.read-cell.result c.in-Some.ensures c.read-cell.ensures (omega arith) (omega arith) c.in-Some-work.step (omega arith) c.in-Some-work.ensures (sym c.if-not-space-to-send.ensures);
+      plan = λ home extents. work_no_space (plain c.args.sizes) (g.L.Links.view c.args.links.now) c.args.station home (cells_of c.args.sizes.stations c.args.sizes.pages c.args.cells.now) (view_of c.args.queues.now).row extents c.in-Some.instruction c.read_cell.result c.in-Some.ensures c.read_cell.ensures (omega arith) (omega arith) c.in-Some-work.step (omega arith) c.in-Some-work.ensures (sym c.if-not-space_to_send.ensures);
       inside = tt;
       space = tt;
     }
@@ -34,7 +34,7 @@ returns-then-not-space-to-send g c =
 pub returns : goal.returns
 returns g c =
     record {
-      plan = λ home extents. work_planned (plain c.args.sizes) (g.L.Links.view c.args.links.now) c.args.station home (cells_of c.args.sizes.stations c.args.sizes.pages c.args.cells.now) (view_of c.args.queues.now).row extents c.in-Some.instruction c.read-cell.result c.in-Some.ensures c.read-cell.ensures (omega arith) (omega arith) c.in-Some-work.step (omega arith) c.in-Some-work.ensures (sym c.if-not-space-to-send.ensures);
+      plan = λ home extents. work_planned (plain c.args.sizes) (g.L.Links.view c.args.links.now) c.args.station home (cells_of c.args.sizes.stations c.args.sizes.pages c.args.cells.now) (view_of c.args.queues.now).row extents c.in-Some.instruction c.read_cell.result c.in-Some.ensures c.read_cell.ensures (omega arith) (omega arith) c.in-Some-work.step (omega arith) c.in-Some-work.ensures (sym c.if-not-space_to_send.ensures);
       inside = omega arith;
-      space = sym c.if-not-space-to-send.ensures;
+      space = sym c.if-not-space_to_send.ensures;
     }

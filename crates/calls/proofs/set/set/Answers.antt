@@ -10,4 +10,4 @@ returns-then-page-sizes g c =
 
 pub returns : goal.returns
 returns g c =
-    set_done g.D.Register.names c.args.sizes (memory c.args.home.now c.args.cells.now (g.L.Links.view c.args.links.now) (view_of c.args.queues.now)) (sym c.if-not-fits.ensures) c.args.page c.args.value c.write-page.new.home c.read-page-state.result (omega arith) c.write-page.auto.home c.read-page-state.ensures c.write-page.ensures
+    set_done g.D.Register.names c.args.sizes (memory c.args.home.now c.args.cells.now (g.L.Links.view c.args.links.now) (view_of c.args.queues.now)) (sym c.if-not-fits.ensures) c.args.page c.args.value c.write_page.new.home c.read_page-state.result (omega arith) c.write_page.auto.home c.read_page-state.ensures c.write_page.ensures

@@ -9,6 +9,6 @@ returns g c =
     let n = c.args.sizes.stations in
     let pages = c.args.sizes.pages in
     let cells = c.args.cells.now in
-    ap (λ i. cells_of n pages (set cells i c.record-of.result)) c.place-at.ensures.value
-    ∙ cell_written n pages cells c.args.station c.args.page c.record-of.result (omega arith) (omega arith) (omega arith)
-    ∙ ap (with_cell (cells_of n pages cells) c.args.station c.args.page) c.record-of.ensures
+    ap (λ i. cells_of n pages (set cells i c.record_of.result)) c.place-at.ensures.value
+    ∙ cell_written n pages cells c.args.station c.args.page c.record_of.result (omega arith) (omega arith) (omega arith)
+    ∙ ap (with_cell (cells_of n pages cells) c.args.station c.args.page) c.record_of.ensures

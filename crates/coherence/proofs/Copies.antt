@@ -12,7 +12,7 @@ use Rattle.protocol.specs.Rules.{Stations}
 use Rattle.protocol.specs.State.{State}
 use Rattle.coherence.specs.Promise.{Copy, reading, writing, Carries, Grant, grants_reading, grants_writing, Return, returns_writing, returns_reading, WriteRequest, asks_to_write, Holder, has_copy, is_granted, has_returned, named}
 use Rattle.coherence.proofs.Tables.{on}
-use Rattle.coherence.proofs.Standing.{Seen, out, in_r, inW, inTR, inTW, seen, Standing, absent, asks, reads, read_granted, upgrades, granted_recalled, reader_recalled, upgrade_recalled, invalidated, invalidated_asks, write_granted, writes, grant_recalled, writer_recalled, written_back, written_back_asks, flushed, flushed_asks, Invariant}
+use Rattle.coherence.proofs.Standing.{Seen, out, in_r, in_w, in_tr, in_tw, seen, Standing, absent, asks, reads, read_granted, upgrades, granted_recalled, reader_recalled, upgrade_recalled, invalidated, invalidated_asks, write_granted, writes, grant_recalled, writer_recalled, written_back, written_back_asks, flushed, flushed_asks, Invariant}
 use Rattle.coherence.proofs.Steps.{may_write, alone}
 
 -- a kind that is meant stands in the list
@@ -95,9 +95,9 @@ not_named (TW t) s e = rw e
 abbrev is_out : Seen → Bool
 is_out out = true
 is_out in_r = false
-is_out inW = false
-is_out inTR = false
-is_out inTW = false
+is_out in_w = false
+is_out in_tr = false
+is_out in_tw = false
 
 pub is_named : (x : HomeState Stations) (s : ℕ) → named x s ≡ true → seen x s ≢ out
 is_named (R D) s e f = false≢true (ap is_out (rw e at f))

@@ -28,7 +28,7 @@ use Rattle.coherence.specs.declared.call.Call.TheVariants.{Fire}
 use Rattle.coherence.specs.Questions.{questions, AllYes, Idle, oldest_page}
 use Rattle.coherence.specs.Promise.{named}
 use Rattle.coherence.proofs.Tables.{at_and_beside, eqb_same, one_lane, on, on_nil, on_oldest}
-use Rattle.coherence.proofs.Standing.{Seen, out, in_r, inW, inTR, inTW, seen, to_read, to_write, by_write_back, by_flush, Standing, absent, asks, reads, read_granted, upgrades, granted_recalled, reader_recalled, upgrade_recalled, invalidated, invalidated_asks, write_granted, writes, grant_recalled, writer_recalled, written_back, written_back_asks, flushed, flushed_asks, HomeStateHolds, Invariant}
+use Rattle.coherence.proofs.Standing.{Seen, out, in_r, in_w, in_tr, in_tw, seen, to_read, to_write, by_write_back, by_flush, Standing, absent, asks, reads, read_granted, upgrades, granted_recalled, reader_recalled, upgrade_recalled, invalidated, invalidated_asks, write_granted, writes, grant_recalled, writer_recalled, written_back, written_back_asks, flushed, flushed_asks, HomeStateHolds, Invariant}
 use Rattle.coherence.proofs.Steps.{collects_silent}
 use Rattle.coherence.proofs.Bounds.{Within}
 
@@ -36,9 +36,9 @@ use Rattle.coherence.proofs.Bounds.{Within}
 data Sees (s : ℕ) : HomeState Stations → Seen → Type 0 where
   unnamed : {x : HomeState Stations} → named x s ≡ false → Sees s x out
   as_reader : {D : Stations} → D s ≡ true → Sees s (R D) in_r
-  as_writer : {t : ℕ} → s ≡ t → Sees s (W t) inW
-  as_recalled_reader : {D : Stations} → D s ≡ true → Sees s (TR D) inTR
-  as_recalled_writer : {t : ℕ} → s ≡ t → Sees s (TW t) inTW
+  as_writer : {t : ℕ} → s ≡ t → Sees s (W t) in_w
+  as_recalled_reader : {D : Stations} → D s ≡ true → Sees s (TR D) in_tr
+  as_recalled_writer : {t : ℕ} → s ≡ t → Sees s (TW t) in_tw
 
 sees : (x : HomeState Stations) (s : ℕ) → Sees s x (seen x s)
 sees (R D) s = by (D s) refl
@@ -48,17 +48,17 @@ sees (R D) s = by (D s) refl
     by false e = unnamed e
 sees (W t) s = by (eqb s t) refl
   where
-    by : (b : Bool) → eqb s t ≡ b → Sees s (W t) (cond b inW out)
+    by : (b : Bool) → eqb s t ≡ b → Sees s (W t) (cond b in_w out)
     by true e = as_writer (eqb-true s t e)
     by false e = unnamed e
 sees (TR D) s = by (D s) refl
   where
-    by : (b : Bool) → D s ≡ b → Sees s (TR D) (cond b inTR out)
+    by : (b : Bool) → D s ≡ b → Sees s (TR D) (cond b in_tr out)
     by true e = as_recalled_reader e
     by false e = unnamed e
 sees (TW t) s = by (eqb s t) refl
   where
-    by : (b : Bool) → eqb s t ≡ b → Sees s (TW t) (cond b inTW out)
+    by : (b : Bool) → eqb s t ≡ b → Sees s (TW t) (cond b in_tw out)
     by true e = as_recalled_writer (eqb-true s t e)
     by false e = unnamed e
 
@@ -118,10 +118,10 @@ instruction_fits (writes e) (Store v) = (_, stores)
 
 -- where a recalled page's station would stand with no message, there is none
 module _ {V : Type 0} {L : V} where
-  no_recalled_reader : {c : Cell V} {q : List (Kind V)} → Standing L inTR c q [] [] → ⊥
+  no_recalled_reader : {c : Cell V} {q : List (Kind V)} → Standing L in_tr c q [] [] → ⊥
   no_recalled_reader x = elim x [ ]
 
-  no_recalled_writer : {c : Cell V} {q : List (Kind V)} → Standing L inTW c q [] [] → ⊥
+  no_recalled_writer : {c : Cell V} {q : List (Kind V)} → Standing L in_tw c q [] [] → ⊥
   no_recalled_writer x = elim x [ ]
 
   -- at a page that no station is named for, and where a station has nothing, no message of it waits

@@ -27,7 +27,7 @@ use Rattle.coherence.specs.Histories.{sets as set-goes, starts as start-goes, is
 use Rattle.coherence.specs.Promise.{nothing, brings, issues_of, answers_of, opening_values, last_stored, with_deed, with_opening, latest, total, Tells, loads, reads_out as tells-readout, AllTold, InOrder, writing, named, EveryHistoryKeepsThePromise}
 use Rattle.coherence.specs.Sequential.{Performs, none_yet, passes}
 use Rattle.coherence.proofs.Tables.{at_and_beside, eqb_same, eqb_other, entry_same, entry_other, on_nil}
-use Rattle.coherence.proofs.Standing.{inW, inTW, seen, Standing, absent, writes, HomeStateHolds, Invariant}
+use Rattle.coherence.proofs.Standing.{in_w, in_tw, seen, Standing, absent, writes, HomeStateHolds, Invariant}
 use Rattle.coherence.proofs.Firings.{keeps}
 use Rattle.coherence.proofs.Bounds.{Within, stays}
 use Rattle.coherence.proofs.Copies.{copies_latest, single_writer, holders_named, no_other_named}
@@ -234,10 +234,10 @@ module _ {V : Type 0} (sizes : Sizes) (v : V) where
     quiet : (p s : ℕ) → Standing (latest v h p) (seen (st.home p).state s) (st.cell s p) [] [] []
     quiet p s = simp (idle.1, on_nil) at (g.invariant.at p s)
 
-    quiet_writer : {L : V} {c : Cell V} → Standing L inW c [] [] [] → (w : V) × (c ≡ Ex w)
+    quiet_writer : {L : V} {c : Cell V} → Standing L in_w c [] [] [] → (w : V) × (c ≡ Ex w)
     quiet_writer (writes {v = w} e) = (w, refl)
 
-    quiet_recalled : {L : V} {c : Cell V} → Standing L inTW c [] [] [] → ⊥
+    quiet_recalled : {L : V} {c : Cell V} → Standing L in_tw c [] [] [] → ⊥
     quiet_recalled x = elim x [ ]
 
     home_latest : (p : ℕ) → ((s : ℕ) (w : V) → st.cell s p ≢ Ex w) → (st.home p).value ≡ latest v h p

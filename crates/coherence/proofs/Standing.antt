@@ -14,13 +14,13 @@ use Rattle.coherence.proofs.Tables.{on}
 
 -- how the home sees a station: not named, or named in one of the four states
 pub data Seen : Type 0 where
-  out in_r inW inTR inTW : Seen
+  out in_r in_w in_tr in_tw : Seen
 
 abbrev pub seen : HomeState Stations → ℕ → Seen
 seen (R D) s = cond (D s) in_r out
-seen (W t) s = cond (eqb s t) inW out
-seen (TR D) s = cond (D s) inTR out
-seen (TW t) s = cond (eqb s t) inTW out
+seen (W t) s = cond (eqb s t) in_w out
+seen (TR D) s = cond (D s) in_tr out
+seen (TW t) s = cond (eqb s t) in_tw out
 
 pub data Asking {V : Type 0} : Kind V → Type 0 where
   to_read : Asking ShReq
@@ -37,19 +37,19 @@ pub data Standing {V : Type 0} (L : V) : Seen → Cell V → List (Kind V) → L
   reads : {v : V} → v ≡ L → Standing L in_r (Sh v) [] [] []
   read_granted : {v : V} → v ≡ L → Standing L in_r Pend [] (ShRep v ∷ []) []
   upgrades : Standing L in_r Pend (ExReq ∷ []) [] []
-  granted_recalled : {v : V} → v ≡ L → Standing L inTR Pend [] (ShRep v ∷ InvReq ∷ []) []
-  reader_recalled : {v : V} → v ≡ L → Standing L inTR (Sh v) [] (InvReq ∷ []) []
-  upgrade_recalled : Standing L inTR Pend (ExReq ∷ []) (InvReq ∷ []) []
-  invalidated : Standing L inTR none [] [] (InvRep ∷ [])
-  invalidated_asks : {k : Kind V} → Asking k → Standing L inTR Pend (k ∷ []) [] (InvRep ∷ [])
-  write_granted : {v : V} → v ≡ L → Standing L inW Pend [] (ExRep v ∷ []) []
-  writes : {v : V} → v ≡ L → Standing L inW (Ex v) [] [] []
-  grant_recalled : {v : V} {k : Kind V} → RecallsWriter k → v ≡ L → Standing L inTW Pend [] (ExRep v ∷ k ∷ []) []
-  writer_recalled : {v : V} {k : Kind V} → RecallsWriter k → v ≡ L → Standing L inTW (Ex v) [] (k ∷ []) []
-  written_back : {v w : V} → v ≡ L → w ≡ L → Standing L inTW (Sh v) [] [] (WbRep w ∷ [])
-  written_back_asks : {w : V} → w ≡ L → Standing L inTW Pend (ExReq ∷ []) [] (WbRep w ∷ [])
-  flushed : {w : V} → w ≡ L → Standing L inTW none [] [] (FlushRep w ∷ [])
-  flushed_asks : {w : V} {k : Kind V} → Asking k → w ≡ L → Standing L inTW Pend (k ∷ []) [] (FlushRep w ∷ [])
+  granted_recalled : {v : V} → v ≡ L → Standing L in_tr Pend [] (ShRep v ∷ InvReq ∷ []) []
+  reader_recalled : {v : V} → v ≡ L → Standing L in_tr (Sh v) [] (InvReq ∷ []) []
+  upgrade_recalled : Standing L in_tr Pend (ExReq ∷ []) (InvReq ∷ []) []
+  invalidated : Standing L in_tr none [] [] (InvRep ∷ [])
+  invalidated_asks : {k : Kind V} → Asking k → Standing L in_tr Pend (k ∷ []) [] (InvRep ∷ [])
+  write_granted : {v : V} → v ≡ L → Standing L in_w Pend [] (ExRep v ∷ []) []
+  writes : {v : V} → v ≡ L → Standing L in_w (Ex v) [] [] []
+  grant_recalled : {v : V} {k : Kind V} → RecallsWriter k → v ≡ L → Standing L in_tw Pend [] (ExRep v ∷ k ∷ []) []
+  writer_recalled : {v : V} {k : Kind V} → RecallsWriter k → v ≡ L → Standing L in_tw (Ex v) [] (k ∷ []) []
+  written_back : {v w : V} → v ≡ L → w ≡ L → Standing L in_tw (Sh v) [] [] (WbRep w ∷ [])
+  written_back_asks : {w : V} → w ≡ L → Standing L in_tw Pend (ExReq ∷ []) [] (WbRep w ∷ [])
+  flushed : {w : V} → w ≡ L → Standing L in_tw none [] [] (FlushRep w ∷ [])
+  flushed_asks : {w : V} {k : Kind V} → Asking k → w ≡ L → Standing L in_tw Pend (k ∷ []) [] (FlushRep w ∷ [])
 
 -- the home's value is the latest unless a station may write; a page that recalls waits for someone
 abbrev pub HomeStateHolds : {V : Type 0} → V → V → HomeState Stations → Type 0

@@ -14,7 +14,7 @@ use Rattle.protocol.specs.Deeds.{account_of}
 use Rattle.protocol.specs.Rules.{Stations, Empty, Someone, HomePage, HomeStep, Works, loads_reading_copy, loads_writing_copy, stores, asks_to_read, asks_to_write, asks_to_upgrade, Receives, takes_reading_copy, takes_writing_copy, writes_back, flushes, invalidates, stays_pending, Collects, is_written_back, is_flushed, strikes, strikes_last, Serves, shares, gives_alone, recalls_readers, recalls_writer_to_read, recalls_writer_to_write}
 use Rattle.protocol.specs.State.{sent_to}
 use Rattle.coherence.proofs.Tables.{eqb_same, eqb_other, or_true, or_false, included, included_other, struck, struck_other, kinds}
-use Rattle.coherence.proofs.Standing.{Seen, out, in_r, inW, inTR, inTW, seen, Asking, to_read, to_write, RecallsWriter, by_write_back, by_flush, Standing, absent, asks, reads, read_granted, upgrades, granted_recalled, reader_recalled, upgrade_recalled, invalidated, invalidated_asks, write_granted, writes, grant_recalled, writer_recalled, written_back, written_back_asks, flushed, flushed_asks, HomeHolds}
+use Rattle.coherence.proofs.Standing.{Seen, out, in_r, in_w, in_tr, in_tw, seen, Asking, to_read, to_write, RecallsWriter, by_write_back, by_flush, Standing, absent, asks, reads, read_granted, upgrades, granted_recalled, reader_recalled, upgrade_recalled, invalidated, invalidated_asks, write_granted, writes, grant_recalled, writer_recalled, written_back, written_back_asks, flushed, flushed_asks, HomeHolds}
 
 module _ {V : Type 0} {L : V} where
   ask_at_none : {a : Seen} {k : Kind V} {q d r : List (Kind V)} → Asking k → Standing L a none q d r → Standing L a Pend (q ++ k ∷ []) d r
@@ -76,8 +76,8 @@ receives_leaves stays_pending = refl
 
 -- a station that may write, and those beside it
 pub data MayWrite : Seen → Type 0 where
-  has_it : MayWrite inW
-  gives_it_back : MayWrite inTW
+  has_it : MayWrite in_w
+  gives_it_back : MayWrite in_tw
 
 pub may_write : {V : Type 0} {L v : V} {a : Seen} {q d r : List (Kind V)} → Standing L a (Ex v) q d r → MayWrite a
 may_write (writes e) = has_it
@@ -91,17 +91,17 @@ alone (R D) s t m n = go (D s) m
     go false x = elim x [ ]
 alone (TR D) s t m n = go (D s) m
   where
-    go : (b : Bool) → MayWrite (cond b inTR out) → seen (TR D) t ≡ out
+    go : (b : Bool) → MayWrite (cond b in_tr out) → seen (TR D) t ≡ out
     go true x = elim x [ ]
     go false x = elim x [ ]
 alone (W u) s t m n = go (eqb s u) refl m
   where
-    go : (b : Bool) → eqb s u ≡ b → MayWrite (cond b inW out) → seen (W u) t ≡ out
+    go : (b : Bool) → eqb s u ≡ b → MayWrite (cond b in_w out) → seen (W u) t ≡ out
     go true e x = simp (eqb_other t u (λ h. n (h ∙ sym (eqb-true s u e))))
     go false e x = elim x [ ]
 alone (TW u) s t m n = go (eqb s u) refl m
   where
-    go : (b : Bool) → eqb s u ≡ b → MayWrite (cond b inTW out) → seen (TW u) t ≡ out
+    go : (b : Bool) → eqb s u ≡ b → MayWrite (cond b in_tw out) → seen (TW u) t ≡ out
     go true e x = simp (eqb_other t u (λ h. n (h ∙ sym (eqb-true s u e))))
     go false e x = elim x [ ]
 
@@ -120,38 +120,38 @@ pub home_free : {V : Type 0} (L : V) (h : HomePage V) (s : ℕ) → MayWrite (se
 home_free {V} L h s m = by h.state m
   where
     by : (x : HomeState Stations) → MayWrite (seen x s) → HomeHolds L (record { value = h.value; state = x })
-    by (R D) m = in_R (D s) m
+    by (R D) m = in_r_case (D s) m
       where
-        in_R : (b : Bool) → MayWrite (cond b in_r out) → h.value ≡ L
-        in_R true y = elim y [ ]
-        in_R false y = elim y [ ]
-    by (TR D) m = in_TR (D s) m
+        in_r_case : (b : Bool) → MayWrite (cond b in_r out) → h.value ≡ L
+        in_r_case true y = elim y [ ]
+        in_r_case false y = elim y [ ]
+    by (TR D) m = in_tr_case (D s) m
       where
-        in_TR : (b : Bool) → MayWrite (cond b inTR out) → (h.value ≡ L) × Someone D
-        in_TR true y = elim y [ ]
-        in_TR false y = elim y [ ]
+        in_tr_case : (b : Bool) → MayWrite (cond b in_tr out) → (h.value ≡ L) × Someone D
+        in_tr_case true y = elim y [ ]
+        in_tr_case false y = elim y [ ]
     by (W t) m = tt
     by (TW t) m = tt
 
 -- the home reads a reply
 module _ {V : Type 0} {L : V} where
-  have_written_back : {v : V} {c : Cell V} {q d r : List (Kind V)} → Standing L inTW c q d (WbRep v ∷ r) → Standing L in_r c q d r
+  have_written_back : {v : V} {c : Cell V} {q d r : List (Kind V)} → Standing L in_tw c q d (WbRep v ∷ r) → Standing L in_r c q d r
   have_written_back (written_back e f) = reads e
   have_written_back (written_back_asks f) = upgrades
 
-  value_written_back : {v : V} {c : Cell V} {q d r : List (Kind V)} → Standing L inTW c q d (WbRep v ∷ r) → v ≡ L
+  value_written_back : {v : V} {c : Cell V} {q d r : List (Kind V)} → Standing L in_tw c q d (WbRep v ∷ r) → v ≡ L
   value_written_back (written_back e f) = f
   value_written_back (written_back_asks f) = f
 
-  have_flushed : {v : V} {c : Cell V} {q d r : List (Kind V)} → Standing L inTW c q d (FlushRep v ∷ r) → Standing L out c q d r
+  have_flushed : {v : V} {c : Cell V} {q d r : List (Kind V)} → Standing L in_tw c q d (FlushRep v ∷ r) → Standing L out c q d r
   have_flushed (flushed f) = absent
   have_flushed (flushed_asks k f) = asks k
 
-  value_flushed : {v : V} {c : Cell V} {q d r : List (Kind V)} → Standing L inTW c q d (FlushRep v ∷ r) → v ≡ L
+  value_flushed : {v : V} {c : Cell V} {q d r : List (Kind V)} → Standing L in_tw c q d (FlushRep v ∷ r) → v ≡ L
   value_flushed (flushed f) = f
   value_flushed (flushed_asks k f) = f
 
-  have_invalidated : {c : Cell V} {q d r : List (Kind V)} → Standing L inTR c q d (InvRep ∷ r) → Standing L out c q d r
+  have_invalidated : {c : Cell V} {q d r : List (Kind V)} → Standing L in_tr c q d (InvRep ∷ r) → Standing L out c q d r
   have_invalidated invalidated = absent
   have_invalidated (invalidated_asks k) = asks k
 
@@ -196,7 +196,7 @@ module _ {V : Type 0} {L : V} where
   share : {v : V} {c : Cell V} {q d r : List (Kind V)} → v ≡ L → Standing L out c (ShReq ∷ q) d r → Standing L in_r c q (d ++ ShRep v ∷ []) r
   share e (asks k) = read_granted e
 
-  give : {v : V} {c : Cell V} {q d r : List (Kind V)} (b : Bool) → v ≡ L → Standing L (cond b in_r out) c (ExReq ∷ q) d r → Standing L inW c q (d ++ ExRep v ∷ []) r
+  give : {v : V} {c : Cell V} {q d r : List (Kind V)} (b : Bool) → v ≡ L → Standing L (cond b in_r out) c (ExReq ∷ q) d r → Standing L in_w c q (d ++ ExRep v ∷ []) r
   give true e upgrades = write_granted e
   give false e (asks k) = write_granted e
 
@@ -204,12 +204,12 @@ module _ {V : Type 0} {L : V} where
   fold_in true upgrades = asks to_write
   fold_in false (asks k) = asks k
 
-  recall_reader : {c : Cell V} {q d r : List (Kind V)} → Standing L in_r c q d r → Standing L inTR c q (d ++ InvReq ∷ []) r
+  recall_reader : {c : Cell V} {q d r : List (Kind V)} → Standing L in_r c q d r → Standing L in_tr c q (d ++ InvReq ∷ []) r
   recall_reader (reads e) = reader_recalled e
   recall_reader (read_granted e) = granted_recalled e
   recall_reader upgrades = upgrade_recalled
 
-  recall_writer : {k : Kind V} {c : Cell V} {q d r : List (Kind V)} → RecallsWriter k → Standing L inW c q d r → Standing L inTW c q (d ++ k ∷ []) r
+  recall_writer : {k : Kind V} {c : Cell V} {q d r : List (Kind V)} → RecallsWriter k → Standing L in_w c q d r → Standing L in_tw c q (d ++ k ∷ []) r
   recall_writer k (write_granted e) = grant_recalled k e
   recall_writer k (writes e) = writer_recalled k e
 
@@ -221,7 +221,7 @@ module _ {V : Type 0} {L : V} {s : ℕ} (low : s < station_limit) where
   serves_here (recalls_writer_to_read n) o x = simp (eqb_other, append-nil) (simp eqb_other at x)
   serves_here (recalls_writer_to_write n) o x = simp (eqb_other, append-nil) (simp eqb_other at x)
 
-  writer_and_beside : {c : Cell V} {q d r : List (Kind V)} (t u : ℕ) {k : Kind V} → RecallsWriter k → Standing L (cond (eqb u t) inW out) c q d r → Standing L (cond (eqb u t) inTW out) c q (d ++ kinds (cond (eqb u t) (Some k) None)) r
+  writer_and_beside : {c : Cell V} {q d r : List (Kind V)} (t u : ℕ) {k : Kind V} → RecallsWriter k → Standing L (cond (eqb u t) in_w out) c q d r → Standing L (cond (eqb u t) in_tw out) c q (d ++ kinds (cond (eqb u t) (Some k) None)) r
   writer_and_beside t u m x = elim (cases_Bool (eqb u t)) [ inl e ↦ simp e (recall_writer m (simp e at x)) | inr e ↦ simp (e, append-nil) (simp e at x) ]
 
   pub serves_beside : {h : HomePage V} {k : Kind V} {step : HomeStep V} {c : Cell V} {q d r : List (Kind V)} (u : ℕ) → u ≢ s → Serves s h k step → Standing L (seen h.state u) c q d r → Standing L (seen step.page.state u) c q (d ++ kinds (sent_to step.sends u)) r

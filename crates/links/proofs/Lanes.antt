@@ -2,7 +2,7 @@
 use Rattle.std.proofs.Common.{◌≡◌, ℕ, ◌+◌, ◌*◌, ◌/◌, ◌<◌, ◌≤◌, Bool, true, false, cond, ◌&&◌, eqb, ltb, leb, List, length, sym, refl, ap, ◌∙◌, ⊎_elim, arith}
 use Rattle.std.proofs.lemmas.Bool.{cond-true, cond-false, cases_Bool, cases_lt, and_parts, and_from, eqb-true, eq-eqb, ne_eqb, lt-ltb, le-ltb, ltb-true}
 use Rattle.std.proofs.lemmas.Bool.Decides.{nat_tests}
-use Rattle.queues.specs.View.{RowsView, with_row, can_put, after_put, can_drop, after_drop, changed as changedRows, made_rows, empty_rows, fitting as fittingRows}
+use Rattle.queues.specs.View.{RowsView, with_row, can_put, after_put, can_drop, after_drop, changed as changed_rows, made_rows, empty_rows, fitting as fitting_rows}
 use Rattle.queues.proofs.Entries.{Sound as SoundRows}
 use Rattle.links.specs.declared.lane.Lane.{Lane}
 use Rattle.links.specs.declared.lane.Lane.TheVariants.{Request, Reply, Down}
@@ -67,7 +67,7 @@ module _ (rows : ℕ) (lane : Lane) (s : ℕ) where
 module _ {X : Type 0} (v : RowsView X) (lane : Lane) (s : ℕ) where
   -- one row changed is one lane changed
   lane_changed : (list : List X) → s < v.rows / 3 → lanes_of (with_row v (row_of v.rows lane s) list) ≡ with_lane (lanes_of v) lane s list
-  unfolding changed changedRows
+  unfolding changed changed_rows
   lane_changed list h =
       same_views (lanes_of (with_row v (row_of v.rows lane s) list)) (with_lane (lanes_of v) lane s list) refl refl
       (λ other t. ap (λ test. cond test list (v.row (row_of v.rows other t))) (same_row v.rows lane s other t h))
@@ -119,14 +119,14 @@ made_lanes {X} v n memory size stations room sizes enough es e =
     ap lanes_of (e ∙ ap (λ (p : ℕ × ℕ). made_rows n p.0 p.1) es)
     ∙ ⊎_elim
     (λ yes.
-    let fits : fittingRows n (stations * 3) room ≡ leb (stations * 3 * room) n = grind (arith, nat_tests) in
-    let same : fittingRows n (stations * 3) room ≡ fitting memory size stations room = fits ∙ enough ∙ sym (λ i. yes i && leb (3 * stations * room * size) memory) in
+    let fits : fitting_rows n (stations * 3) room ≡ leb (stations * 3 * room) n = grind (arith, nat_tests) in
+    let same : fitting_rows n (stations * 3) room ≡ fitting memory size stations room = fits ∙ enough ∙ sym (λ i. yes i && leb (3 * stations * room * size) memory) in
     ap (λ (p : ℕ × ℕ). lanes_of {X = X} (made_rows n p.0 p.1)) (cond-true _ _ _ yes)
     ∙ ap (λ test. lanes_of {X = X} (cond test (empty_rows (stations * 3) room) (empty_rows 0 0))) same
     ∙ thirds (fitting memory size stations room))
     (λ refused.
     ap (λ (p : ℕ × ℕ). lanes_of {X = X} (made_rows n p.0 p.1)) (cond-false _ _ _ refused)
-    ∙ none (fittingRows n 0 0)
+    ∙ none (fitting_rows n 0 0)
     ∙ sym (cond-false _ _ _ (λ i. refused i && leb (3 * stations * room * size) memory)))
     (cases_Bool (allowed stations room))
   where

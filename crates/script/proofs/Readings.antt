@@ -81,22 +81,22 @@ rebuild tag body place =
     (cond (eqb tag 5) (Store (get_or body 0 0) (word_at body 1) (record { bytes = drop 3 body; at = place }))
     (cond (eqb tag 6) (Fire (kind_numbered (get_or body 0 0)) (get_or body 1 0)) (cond (eqb tag 7) Close (Readout (word_at body 0))))))))
 
-number_of : (n : ℕ) → n / 256 * 256 + n % 256 ≡ n
-number_of n = omega arith
+number_whole : (n : ℕ) → n / 256 * 256 + n % 256 ≡ n
+number_whole n = omega arith
 
 rebuilt : (r : Record Piece) (place : ℕ) → OfValue (λ value. value.at ≡ place) r → rebuild (tag_of r) (body_of r) place ≡ r
 unfolding rebuild word_at kind_numbered
-rebuilt (Prepare stations pages room) place h = ap (λ (p : ℕ). Prepare stations p room) (number_of pages)
-rebuilt (Set page value) place h = (λ i. Set (number_of page i) (record { bytes = value.bytes; at = sym h i }))
+rebuilt (Prepare stations pages room) place h = ap (λ (p : ℕ). Prepare stations p room) (number_whole pages)
+rebuilt (Set page value) place h = (λ i. Set (number_whole page i) (record { bytes = value.bytes; at = sym h i }))
 rebuilt Start place h = refl
-rebuilt (Load station page) place h = ap (λ (p : ℕ). Load station p) (number_of page)
-rebuilt (Store station page value) place h = (λ i. Store station (number_of page i) (record { bytes = value.bytes; at = sym h i }))
+rebuilt (Load station page) place h = ap (λ (p : ℕ). Load station p) (number_whole page)
+rebuilt (Store station page value) place h = (λ i. Store station (number_whole page i) (record { bytes = value.bytes; at = sym h i }))
 rebuilt (Fire Work station) place h = refl
 rebuilt (Fire Receive station) place h = refl
 rebuilt (Fire Collect station) place h = refl
 rebuilt (Fire Serve station) place h = refl
 rebuilt Close place h = refl
-rebuilt (Readout page) place h = ap (λ (p : ℕ). Readout p) (number_of page)
+rebuilt (Readout page) place h = ap (λ (p : ℕ). Readout p) (number_whole page)
 
 tag_range : (r : Record Piece) → (0 < tag_of r) × (tag_of r ≤ 8)
 tag_range (Prepare a b c) = (omega arith, omega arith)

@@ -1,3 +1,5 @@
+-- What the laws of answers as values cite: a number is its two bytes, and an answer has the case and the number that it
+-- was read from. Assumes nothing.
 use Rattle.std.specs.Prelude.{◌≡◌, ℕ, ◌+◌, ◌*◌, ◌/◌, ◌%◌, Some, None, Option, refl}
 use Rattle.std.proofs.Common.{sym, ap, ◌∙◌, arith}
 use Rattle.std.specs.Option.{option_map}

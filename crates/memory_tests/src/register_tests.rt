@@ -13,13 +13,10 @@ fn check_answers<R: Register>(
     register: R,
     named: &[bool; NUMBERS],
 ) -> Result<(), Fail> {
-    let mut count: usize = 0;
-    for number in 0..NUMBERS {
-        assert_eq!(rt; register.names(number), named[number]);
-        if named[number] {
-            count += 1;
-        }
+    for (number, is_named) in named.iter().enumerate() {
+        assert_eq!(rt; register.names(number), *is_named);
     }
+    let count = named.iter().filter(|is_named| **is_named).count();
     assert_eq!(rt; register.count(), count);
     Ok(())
 }

@@ -1,5 +1,5 @@
 -- Fields at the front of a list of bytes. Assumes nothing.
-use Rattle.std.proofs.Common.{◌≡◌, ℕ, suc, ◌+◌, ◌-◌, ◌*◌, ◌/◌, ◌%◌, ◌<◌, ◌≤◌, List, [], ◌∷◌, ◌++◌, length, get_or, take, drop, sym, refl, ap, ◌∙◌, subst, arith, length-append, take-append-drop}
+use Rattle.std.proofs.Common.{◌≡◌, ℕ, suc, ◌+◌, ◌-◌, ◌*◌, ◌/◌, ◌%◌, ◌<◌, ◌≤◌, List, [], ◌∷◌, ◌++◌, length, get_or, take, drop, sym, refl, ap, ◌∙◌, subst, arith, take-append-drop}
 use Rattle.std.proofs.lemmas.List.{take_at, drop_at, drop_more, take_rest, get_or_append_left}
 use Rattle.std.proofs.ByRecursion.{All-from_get_or}
 use Rattle.std.specs.Int.Digits.{AllBelowBase}
@@ -17,14 +17,6 @@ module _ (tag size high low : ℕ) (rest : List ℕ) (size_is : size ≡ high * 
       let whole : body ++ after ≡ rest = (λ i. b i ++ a i) ∙ take-append-drop size rest in
       cc
 
-  pub absent : length rest < size → (first : ℕ) (body after : List ℕ) → tag ∷ high ∷ low ∷ rest ≡ field first body ++ after → ⊥
-  absent short first body after is =
-      let upper : high ≡ length body / 256 = cc in
-      let lower : low ≡ length body % 256 = cc in
-      let whole : rest ≡ body ++ after = cc in
-      let long : length rest ≡ length body + length after = ap length whole ∙ length-append body after in
-      omega arith
-
 -- a list begins with one field of a tag at the most
 pub unique : (tag : ℕ) (b b' r r' : List ℕ) → field tag b ++ r ≡ field tag b' ++ r' → (b ≡ b') × (r ≡ r')
 unique tag b b' r r' e =
@@ -41,11 +33,6 @@ pub under_body : (tag : ℕ) (s body rest : List ℕ) → ((i : ℕ) → get_or 
 under_body tag s body rest small is =
     All-from_get_or (λ b. b < 256) body 0
     (λ i below. subst (λ b. b < 256) (ap (λ (l : List ℕ). get_or l (suc (suc (suc i))) 0) is ∙ get_or_append_left body rest 0 i below) (small (suc (suc (suc i)))))
-
-pub one_byte : (s : List ℕ) → length s ≡ 1 → s ≡ get_or s 0 0 ∷ []
-one_byte [] e = absurd (omega arith)
-one_byte (x ∷ []) e = refl
-one_byte (x ∷ y ∷ s) e = absurd (omega arith)
 
 pub two_bytes : (s : List ℕ) (n : ℕ) → length s ≡ 2 → n ≡ get_or s 0 0 * 256 + get_or s 1 0 → get_or s 1 0 < 256 → s ≡ word n
 two_bytes [] n e is small = absurd (omega arith)

@@ -1,20 +1,17 @@
 -- A message written and then read is that message. Assumes nothing.
-use Rattle.std.proofs.Common.{◌≡◌, ℕ, ◌+◌, ◌-◌, ◌≤◌, List, length, take, Some, None, Ok, Option, sym, refl, ap, ◌∙◌, subst, arith}
-use native.Mathlib.Nat.{sub-zero}
-use Rattle.std.proofs.lemmas.Bool.{le-leb, cond-true}
-use Rattle.values.specs.Writing.{answered, written}
+use Rattle.std.proofs.Common.{◌≡◌, ℕ, ◌+◌, ◌≤◌, List, length, Some, None, Option, sym, refl, ap, ◌∙◌, subst, arith}
 use Rattle.messages.specs.declared.message.Message.{Message}
 use Rattle.messages.specs.Bytes.{value_of, value_field, message_bytes}
 use Rattle.messages.specs.Reading.{Reads}
-use Rattle.messages.specs.RoundTrip.{itself, ReadsBackAsItself, SameBytesSameMessage, AtMostWidthAndTwelve, RoundTripHolds}
+use Rattle.messages.specs.RoundTrip.{ReadsBackAsItself, SameBytesSameMessage, AtMostWidthAndTwelve, RoundTripHolds}
 use Rattle.messages.proofs.Parts.{same_message}
-use Rattle.messages.proofs.Buffers.{was_long, at_front}
+use Rattle.messages.proofs.Buffers.{at_front}
 
 module _ {V : Type 0} (bytes : V → List ℕ) (reads : List ℕ → Option V) (back : (v : V) → reads (bytes v) ≡ Some v) where
   same : SameBytesSameMessage bytes
   same = same_message bytes reads back
 
-  pub read_itself : (m : Message V) (r : Option (Message V)) → Reads (message_bytes bytes) (message_bytes bytes m) r → r ≡ Some m
+  read_itself : (m : Message V) (r : Option (Message V)) → Reads (message_bytes bytes) (message_bytes bytes m) r → r ≡ Some m
   read_itself m None e = absurd (e m refl)
   read_itself m (Some n) e = ap (λ (x : Message V). Some x) (sym (same m n e))
 
@@ -25,15 +22,8 @@ module _ {V : Type 0} (bytes : V → List ℕ) (reads : List ℕ → Option V) (
   value_long width fixed None = omega arith
   value_long width fixed (Some v) = omega (arith, fixed v)
 
-  pub longest : (width : ℕ) → ((v : V) → length (bytes v) ≡ width) → AtMostWidthAndTwelve bytes width
+  longest : (width : ℕ) → ((v : V) → length (bytes v) ≡ width) → AtMostWidthAndTwelve bytes width
   longest width fixed m = omega (arith, value_long width fixed (value_of m.kind))
 
   pub round_trip : (width : ℕ) → ((v : V) → length (bytes v) ≡ width) → RoundTripHolds bytes width
   round_trip width fixed = (reads_back, (λ s m buffer size read e. at_front (message_bytes bytes m) buffer size (sym e) ∙ sym read), same, longest width fixed)
-
-  pub given : (m : Message V) (buffer last : List ℕ) (size : ℕ) (r : Option (Message V)) → Ok size ≡ answered (message_bytes bytes m) buffer → last ≡ written (message_bytes bytes m) buffer → Reads (message_bytes bytes) (take (size - 0) last) r → Ok r ≡ itself bytes m buffer
-  given m buffer last size r e is read =
-      let long = was_long (message_bytes bytes m) buffer size e in
-      let part : take (size - 0) last ≡ take size (written (message_bytes bytes m) buffer) = λ i. take (sub-zero size i) (is i) in
-      let whole = reads_back m buffer size r (sym e) (subst (λ (s : List ℕ). Reads (message_bytes bytes) s r) part read) in
-      ap (λ (o : Option (Message V)). Ok o) whole ∙ sym (cond-true _ _ _ (le-leb _ _ long.1))

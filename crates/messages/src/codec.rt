@@ -1,7 +1,7 @@
 ghost use Rattle.std.specs.Prelude.{◌≡◌, ℕ, List, ◌∷◌, ◌++◌};
 ghost use Rattle.std.specs.Option.{option_map};
 ghost use Rattle.values.specs.Writing.{answered, written};
-ghost use Rattle.messages.specs.Bytes.{word, kind_and_page, kind_number, value_tag, value_field, message_bytes, max_size};
+ghost use Rattle.messages.specs.Bytes.{word, kind_and_page, kind_number, value_tag, field, message_bytes, max_size};
 ghost use Rattle.messages.specs.Reading.{Reads};
 
 use crate::field::take_field;
@@ -10,11 +10,12 @@ use values::buffer::{TooShort, put_front};
 use values::kind::Value;
 
 // The tag of each field.
-const KIND_TAG: u8 = 1;
-
-const PAGE_TAG: u8 = 2;
-
-const VALUE_TAG: u8 = 3;
+#[derive(Clone, Copy)]
+enum Tag {
+    Kind = 1,
+    Page = 2,
+    Value = 3,
+}
 
 // How many bytes a kind and a page have.
 const KIND_SIZE: u8 = 1;
@@ -55,12 +56,22 @@ fn header<V: Value>(message: &Message<V>) -> [u8; HEADER_SIZE]
     let [high, low] = two_bytes(V::width() as u16);
     // The zeros are the high bytes of sizes below 256.
     [
-        KIND_TAG, 0, KIND_SIZE, number, PAGE_TAG, 0, PAGE_SIZE, page_high, page_low, VALUE_TAG,
-        high, low,
+        Tag::Kind as u8,
+        0,
+        KIND_SIZE,
+        number,
+        Tag::Page as u8,
+        0,
+        PAGE_SIZE,
+        page_high,
+        page_low,
+        Tag::Value as u8,
+        high,
+        low,
     ]
 }
 
-// The number in two bytes, highest first.
+// The number in two bytes, highest first. It stands apart, because the proof of `header` has no bound of the width.
 fn two_bytes(number: u16) -> [u8; 2]
     ensures { result ≡ word number }
 {
@@ -91,7 +102,11 @@ pub fn read<V: Value>(from: &[u8]) -> Option<Message<V>>
     ensures { Reads (message_bytes V.bytes) from.now result }
 {
     let (number, page, rest) = read_kind_and_page(from)?;
-    let kind = Kind::from_parts(number, read_value(rest)?)?;
+    let value = match rest {
+        [] => None,
+        field => Some(read_value(field)?),
+    };
+    let kind = Kind::from_parts(number, value)?;
     Some(Message { page, kind })
 }
 
@@ -99,35 +114,19 @@ pub fn read<V: Value>(from: &[u8]) -> Option<Message<V>>
 fn read_kind_and_page(from: &[u8]) -> Option<(u8, u16, &[u8])>
     ensures { Reads (λ (p : ℕ × ℕ × List ℕ). kind_and_page p.0 p.1 p.2) from.now (option_map (λ p. (p.0, p.1, p.2.now)) result) }
 {
-    let (number, rest) = take_field(from, KIND_TAG)?;
-    let (page, rest) = take_field(rest, PAGE_TAG)?;
+    let (number, rest) = take_field(from, Tag::Kind as u8)?;
+    let (page, rest) = take_field(rest, Tag::Page as u8)?;
     let [number] = number else {
         return None;
     };
-    Some((*number, read_two_bytes(page)?, rest))
+    let page = u16::from_be_bytes(page.try_into().ok()?);
+    Some((*number, page, rest))
 }
 
-// The number in two bytes, if there are two.
-fn read_two_bytes(from: &[u8]) -> Option<u16>
-    ensures { Reads word from.now result }
+// The value in the field that these bytes are.
+fn read_value<V: Value>(from: &[u8]) -> Option<V>
+    ensures { Reads (λ value. field value_tag (V.bytes value)) from.now result }
 {
-    match from {
-        [high, low] => Some(u16::from_be_bytes([*high, *low])),
-        _ => None,
-    }
-}
-
-// The value in the last field of a message; a message that has no such field has no value.
-fn read_value<V: Value>(from: &[u8]) -> Option<Option<V>>
-    ensures { Reads (value_field V.bytes) from.now result }
-{
-    if from.is_empty() {
-        return Some(None);
-    }
-    let (body, rest) = take_field(from, VALUE_TAG)?;
-    if rest.is_empty() {
-        Some(Some(V::read(body)?))
-    } else {
-        None
-    }
+    let (body, rest) = take_field(from, Tag::Value as u8)?;
+    if rest.is_empty() { V::read(body) } else { None }
 }

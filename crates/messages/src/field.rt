@@ -23,14 +23,7 @@ pub fn split_field(from: &[u8]) -> Option<(u8, &[u8], &[u8])>
     let [tag, high, low, rest @ ..] = from else {
         return None;
     };
-    let size = announced(*high, *low);
+    let size = usize::from(u16::from_be_bytes([*high, *low]));
     let (body, after) = rest.split_at_checked(size)?;
     Some((*tag, body, after))
-}
-
-// The length that a header says, highest byte first.
-fn announced(high: u8, low: u8) -> usize
-    ensures { result ≡ high * 256 + low }
-{
-    u16::from_be_bytes([high, low]) as usize
 }

@@ -27,7 +27,8 @@ pub struct Message<V> {
     pub kind: Kind<V>,
 }
 
-// The number of each kind.
+// The number of each kind. Constants, because they are both written and matched; an enum of the kinds without a value
+// would need a third match of ten, from the byte.
 const SH_REQ: u8 = 1;
 
 const EX_REQ: u8 = 2;
@@ -72,17 +73,15 @@ impl<V> Kind<V> {
         ensures { option_map (λ x. x.now) result ≡ value_of self.now }
     {
         match self {
-            Kind::ShRep(value) => Some(value),
-            Kind::ExRep(value) => Some(value),
-            Kind::WbRep(value) => Some(value),
-            Kind::FlushRep(value) => Some(value),
+            Kind::ShRep(value) | Kind::ExRep(value) | Kind::WbRep(value) | Kind::FlushRep(value) =>
+                Some(value),
             _ => None,
         }
     }
 }
 
 impl<V: Copy> Kind<V> {
-    // The kind that has this number and this value, if there is one.
+    // The kind that has this number and this value, if there is one. A `TryFrom` of the pair would be no plainer.
     pub(crate) fn from_parts(number: u8, value: Option<V>) -> Option<Kind<V>>
         ensures { Reads number_and_value (number, value) result }
     {

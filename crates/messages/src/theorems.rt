@@ -24,13 +24,12 @@ pub fn read_back<V: Value>(
     ensures theorem { RoundTripHolds V.bytes V.width }
 {
     round_trip_holds::<V>();
-    let Ok(size) = write(message, out) else {
-        return Err(TooShort);
-    };
+    let size = write(message, out)?;
     Ok(read(&out[0..size]))
 }
 
 // Worked examples of messages in bytes.
 pub fn examples_hold()
-    ensures { (ShareReplyOfPage5WithCount300) × (InvalidateRequestOfPage258) }
+    ensures reply { ShareReplyOfPage5WithCount300 }
+    ensures request { InvalidateRequestOfPage258 }
 {}

@@ -72,10 +72,6 @@ pub nobody_is_none : how_many nobody ≡ 0
 unfolding how_many how_many_below
 nobody_is_none = refl
 
-pub stations_at_most : (set : ℕ → Bool) → how_many set ≤ station_limit
-unfolding how_many
-stations_at_most set = at_most station_limit set
-
 pub one_added : (set more : ℕ → Bool) (s : ℕ) → s < station_limit → set s ≡ false → more s ≡ true → ((k : ℕ) → k ≢ s → more k ≡ set k) → how_many more ≡ how_many set + 1
 unfolding how_many
 one_added = below_added station_limit

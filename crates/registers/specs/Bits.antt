@@ -1,11 +1,12 @@
 -- A set of stations as sixteen bits, one for each station. Assumes nothing.
-use Rattle.std.specs.Prelude.{ℕ, ◌/◌, ◌%◌, ◌^◌, Bool, ◌&&◌, ◌==◌, nat_lt}
+use Rattle.std.specs.Prelude.{ℕ, ◌^◌, Bool, cond, ◌&&◌, ◌==◌, nat_lt}
+use Rattle.std.specs.Int.{bit_at}
 use Rattle.registers.specs.Sets.{station_limit}
 
--- whether bit `place` of the number is set
-abbrev pub bit_set : ℕ → ℕ → Bool
-bit_set bits place = bits / 2 ^ place % 2 == 1
+-- the stations whose bit is 1
+unfoldable pub in_bits : ℕ → ℕ → Bool
+in_bits bits station = nat_lt station station_limit && (bit_at bits station == 1)
 
--- the stations whose bit is set
-abbrev pub in_bits : ℕ → ℕ → Bool
-in_bits bits station = nat_lt station station_limit && bit_set bits station
+-- the number whose only bit is the station's; 0 where the number is no station's
+abbrev pub bit_of : ℕ → ℕ
+bit_of station = cond (nat_lt station station_limit) (2 ^ station) 0

@@ -1,7 +1,6 @@
-ghost use Rattle.std.specs.Prelude.{◌≡◌, ◌-◌, ◌%◌, ◌^◌, ◌<◌, bit_and, bit_or, count_ones};
-ghost use Rattle.registers.specs.Sets.{station_limit};
-ghost use Rattle.registers.specs.Bits.{bit_set, in_bits};
-ghost use Rattle.std.proofs.Common.{rules};
+ghost use Rattle.std.specs.Prelude.{◌≡◌};
+ghost use Rattle.registers.specs.Bits.{in_bits, bit_of};
+ghost use Rattle.registers.specs.HighLemmas.{bits_high};
 
 use crate::register::{Register, STATIONS};
 
@@ -11,67 +10,40 @@ pub struct BitRegister {
     bits: u16,
 }
 
-fn test_bit(bits: u16, place: usize) -> bool
-    requires { place < station_limit }
-    ensures { result ≡ bit_set bits place }
+// The bit of the station; no bit is set where the number is no station's, so that no caller asks first.
+fn bit(station: usize) -> u16
+    ensures { result ≡ bit_of station }
 {
-    (bits >> place) % 2 == 1
+    if station < STATIONS { 1 << station } else { 0 }
 }
 
-fn set_bit(bits: u16, place: usize) -> u16
-    requires { place < station_limit }
-    ensures { result ≡ bit_or bits (2 ^ place) }
-{
-    bits | 1 << place
-}
-
-fn clear_bit(bits: u16, place: usize) -> u16
-    requires { place < station_limit }
-    ensures { result ≡ bit_and bits (65535 - 2 ^ place) }
-{
-    bits & !(1 << place)
-}
-
-fn count_bits(bits: u16) -> u32
-    ensures { result ≡ count_ones bits }
-{
-    bits.count_ones()
-}
-
+#[tactic(auto, using(crate::proofs::Bitwise::station_bits))]
 impl Register for BitRegister {
     ghost names = { λ register. in_bits register.bits };
 
-    ghost high = { Prim.search rules };
+    ghost high = { λ register number high. bits_high register.bits number high };
 
     fn empty() -> BitRegister {
         BitRegister { bits: 0 }
     }
 
     fn names(self, station: usize) -> bool {
-        station < STATIONS && test_bit(self.bits, station)
+        self.bits & bit(station) != 0
     }
 
     fn count(self) -> usize {
-        count_bits(self.bits) as usize
+        self.bits.count_ones() as usize
     }
 
     fn add(self, station: usize) -> BitRegister {
-        if station < STATIONS {
-            BitRegister {
-                bits: set_bit(self.bits, station),
-            }
-        } else {
-            self
+        BitRegister {
+            bits: self.bits | bit(station),
         }
     }
 
     fn strike(self, station: usize) -> BitRegister {
-        if station < STATIONS {
-            BitRegister {
-                bits: clear_bit(self.bits, station),
-            }
-        } else {
-            self
+        BitRegister {
+            bits: self.bits & !bit(station),
         }
     }
 }

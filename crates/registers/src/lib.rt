@@ -2,7 +2,7 @@
 // keeps a bit for each station and `packed::PackedRegister` a packed list of their numbers. Of both it is promised
 // what they name after each call, as one equation of sets, and how many stations that is.
 // Definitions to believe: specs/Sets.antt; what the two kinds keep: specs/Bits.antt, specs/Packed.antt. Proofs: proofs/,
-// and specs/PackedLemmas.antt.
+// and for the law of the trait specs/HighLemmas.antt.
 #![tactic(auto)]
 
 pub mod bits;

@@ -1,11 +1,13 @@
-ghost use Rattle.std.specs.Prelude.{◌≡◌, ◌+◌, ◌*◌, ◌/◌, ◌%◌, ◌^◌, ◌<◌, false, if◌then◌else◌, nat_eq};
-ghost use Rattle.registers.specs.Sets.{station_limit, including, how_many};
-ghost use Rattle.registers.specs.Packed.{in_list};
-ghost use Rattle.registers.specs.PackedLemmas.{list_high};
+ghost use Rattle.std.specs.Prelude.{◌≡◌, ◌^◌, ◌<◌};
+ghost use Rattle.std.specs.Iterator.{YieldsFirst, item_count};
+ghost use Rattle.registers.specs.Sets.{how_many};
+ghost use Rattle.registers.specs.Packed.{numbers, in_list};
+ghost use Rattle.registers.specs.HighLemmas.{list_high};
 
 use crate::register::{Register, STATIONS};
 
-// A packed list of different stations, four bits for each, and how many they are. The latest stands lowest.
+// A packed list of different stations, four bits for each, and how many they are. The latest stands lowest. It is a number
+// with a count beside it by a rule of the project: one kind of register is a packed list of four-bit numbers.
 #[derive(Clone, Copy)]
 pub struct PackedRegister {
     list: u64,
@@ -19,83 +21,76 @@ impl Register for PackedRegister {
 
     ghost high = { λ register number high. list_high register.count register.list number high };
 
+    #[tactic(auto, unfolding(crate::specs::Packed::in_list, crate::specs::Sets::how_many, crate::specs::Sets::how_many_below))]
     fn empty() -> PackedRegister {
         PackedRegister { list: 0, count: 0 }
     }
 
     fn names(self, station: usize) -> bool {
-        let mut rest = self.list;
-        for _ in 0..self.count {
-            if first(rest) == station {
-                return true;
-            }
-            rest = after_first(rest);
-        }
-        false
+        self.numbers().any(|number| number == station)
     }
 
     fn count(self) -> usize {
-        self.count as usize
+        usize::from(self.count)
     }
 
+    #[tactic(auto, using(crate::proofs::Listed::longer_list))]
     fn add(self, station: usize) -> PackedRegister {
         if station >= STATIONS || self.names(station) {
             return self;
         }
-        with_new(self, station)
+        PackedRegister {
+            list: self.list * NUMBERS + station as u64,
+            count: self.count + 1,
+        }
     }
 
+    #[tactic(auto, using(crate::proofs::Listed::copying))]
     fn strike(self, station: usize) -> PackedRegister {
+        // A loop, because no proof is written of a `fold` whose closure calls this block's `add`.
         let mut copy = Self::empty();
-        let mut rest = self.list;
-        for _ in 0..self.count {
-            copy = with_other(copy, first(rest), station);
-            rest = after_first(rest);
+        for number in self.numbers() {
+            if number != station {
+                copy = copy.add(number);
+            }
         }
         copy
+    }
+}
+
+impl PackedRegister {
+    // The stations' numbers, the latest first.
+    fn numbers(self) -> Numbers
+        ensures { numbers result.count result.list ≡ numbers self.count self.list }
+    {
+        Numbers {
+            list: self.list,
+            count: self.count,
+        }
     }
 }
 
 // How many four-bit numbers there are.
 const NUMBERS: u64 = 16;
 
-fn first(list: u64) -> usize
-    ensures { result ≡ list % 16 }
-{
-    (list % NUMBERS) as usize
+// The numbers of a packed list that are still to come.
+#[derive(Drop)]
+struct Numbers {
+    list: u64,
+    count: u8,
 }
 
-fn after_first(list: u64) -> u64
-    ensures { result ≡ list / 16 }
-{
-    list / NUMBERS
-}
+impl Iterator for Numbers {
+    type Item = usize;
 
-fn with_first(list: u64, station: usize) -> u64
-    requires { list * 16 + station < 2 ^ 64 }
-    ensures { result ≡ list * 16 + station }
-{
-    list * NUMBERS + station as u64
-}
+    ghost next_gives = { YieldsFirst (λ left. numbers left.count left.list) };
 
-// The register with a station that it did not name.
-fn with_new(register: PackedRegister, station: usize) -> PackedRegister
-    requires { (station < station_limit) × (in_list register.count register.list station ≡ false) }
-    ensures { in_list result.count result.list ≡ including (in_list register.count register.list) station }
-{
-    PackedRegister {
-        list: with_first(register.list, station),
-        count: register.count + 1,
-    }
-}
+    ghost remaining = { item_count (λ left. numbers left.count left.list) };
 
-// The register with that station too, unless it is the one to strike.
-fn with_other(register: PackedRegister, station: usize, struck: usize) -> PackedRegister
-    ensures { in_list result.count result.list ≡ (if nat_eq station struck then in_list register.count register.list else including (in_list register.count register.list) station) }
-{
-    if station == struck {
-        register
-    } else {
-        register.add(station)
+    fn next(&mut self) -> Option<usize> {
+        self.count = self.count.checked_sub(1)?;
+        let first = self.list % NUMBERS;
+        self.list /= NUMBERS;
+        Some(first as usize)
     }
 }

@@ -4,7 +4,7 @@ ghost use Rattle.registers.specs.Sets.{station_limit, nobody, including, without
 // How many stations there can be: their numbers are below this one.
 pub const STATIONS: usize = 16;
 
-// A set of stations.
+// A set of stations. What a register names is a function of numbers, so it is a member of the trait and no `Model`.
 pub trait Register: Copy {
     // The stations that the register names.
     ghost names: { Self → ℕ → Bool };

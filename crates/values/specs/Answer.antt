@@ -1,8 +1,7 @@
 -- An answer in three bytes: its case, then a number, highest byte first. Assumes nothing.
-use Rattle.std.specs.Prelude.{ℕ, ◌+◌, ◌*◌, ◌/◌, ◌%◌, ◌≤◌, Bool, true, false, cond, T, List, [], ◌∷◌, ◌++◌, Some, None, codes, decimal, Option, ◌==◌, nat_le}
-use Rattle.std.proofs.Common.{leb→le}
+use Rattle.std.specs.Prelude.{ℕ, ◌+◌, ◌*◌, ◌/◌, ◌%◌, cond, List, [], ◌∷◌, ◌++◌, Some, None, codes, decimal, Option, ◌==◌}
 use Rattle.std.specs.Option.{option_map}
-use Rattle.values.specs.declared.box_number.BoxNumber.{BoxNumber}
+use Rattle.values.specs.BoxNumber.{box_numbered}
 use Rattle.values.specs.declared.answer.Answer.{Answer}
 use Rattle.values.specs.declared.answer.Answer.TheVariants.{Blank, Ticked, Written, Refused}
 
@@ -20,15 +19,6 @@ number_of Refused = 0
 
 abbrev pub answer_bytes : Answer → List ℕ
 answer_bytes a = case_of a ∷ (number_of a / 256) ∷ (number_of a % 256) ∷ []
-
-abbrev pub box_from : (n : ℕ) (low high : Bool) → (T low → 1 ≤ n) → (T high → n ≤ 99) → Option BoxNumber
-box_from n true true first last = Some (record { number = n; first = first tt; last = last tt })
-box_from n true false first last = None
-box_from n false high first last = None
-
--- the box of that number, where it is 1 to 99
-abbrev pub box_numbered : ℕ → Option BoxNumber
-box_numbered n = box_from n (nat_le 1 n) (nat_le n 99) (leb→le 1 n) (leb→le n 99)
 
 abbrev pub answer_of : ℕ → ℕ → Option Answer
 answer_of case n =

@@ -3,7 +3,7 @@ use Rattle.std.specs.Prelude.{◌≡◌, ℕ, ◌≤◌, Bool, true, false, T, S
 use Rattle.std.proofs.Common.{ap, subst, leb→le, le→leb}
 use Rattle.std.proofs.Math.Bridge.{le_prop}
 use Rattle.values.specs.declared.box_number.BoxNumber.{BoxNumber}
-use Rattle.values.specs.Answer.{box_from, box_numbered}
+use Rattle.values.specs.BoxNumber.{box_from, box_numbered}
 
 same_box : (a b : BoxNumber) → a.number ≡ b.number → a ≡ b
 same_box a b e =

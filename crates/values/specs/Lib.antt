@@ -1,5 +1,6 @@
 pub mod Writing
 pub mod Count
+pub mod BoxNumber
 pub mod Answer
 pub mod Examples
 pub mod Boxes

@@ -1,6 +1,7 @@
 ghost use Rattle.std.specs.Prelude.{◌≡◌, ℕ, ◌+◌, ◌*◌, ◌/◌, ◌%◌, [], ◌∷◌, Some, refl};
 ghost use Rattle.std.proofs.Common.{ap, ◌∙◌, arith, rules};
-ghost use Rattle.values.specs.Answer.{case_of, number_of, box_numbered, answer_bytes, answer_reads, answer_text, answer_of};
+ghost use Rattle.values.specs.Answer.{case_of, number_of, case_name, answer_bytes, answer_reads, answer_text, answer_of};
+ghost use Rattle.values.specs.BoxNumber.{box_numbered};
 ghost use Rattle.std.specs.Option.{option_map};
 ghost use Rattle.values.specs.declared.answer.Answer.TheVariants.{Blank, Ticked, Written, Refused};
 ghost use Rattle.values.specs.Boxes.{box_some};
@@ -20,7 +21,8 @@ pub enum Answer {
     Refused,
 }
 
-// The first byte of each case.
+// The first byte of each case. Constants, because a match reads them back; an enum beside `Answer` would need two
+// matches more.
 const BLANK: u8 = 0;
 
 const TICKED: u8 = 1;
@@ -28,21 +30,6 @@ const TICKED: u8 = 1;
 const WRITTEN: u8 = 2;
 
 const REFUSED: u8 = 3;
-
-const LAST_BOX: u16 = 99;
-
-impl BoxNumber {
-    // The box of that number, if a form has one.
-    pub fn new(number: u16) -> Option<BoxNumber>
-        ensures { result ≡ box_numbered number }
-    {
-        if number >= 1 && number <= LAST_BOX {
-            Some(BoxNumber { number })
-        } else {
-            None
-        }
-    }
-}
 
 impl Answer {
     // The number of the answer's case.
@@ -62,10 +49,20 @@ impl Answer {
         ensures { result ≡ number_of self.now }
     {
         match self {
-            Answer::Blank => 0,
             Answer::Ticked(ticked) => ticked.number,
             Answer::Written(number) => *number,
-            Answer::Refused => 0,
+            Answer::Blank | Answer::Refused => 0,
+        }
+    }
+
+    fn case_name(&self) -> &'static str
+        ensures { result.now ≡ case_name self.now }
+    {
+        match self {
+            Answer::Blank => "blank",
+            Answer::Ticked(_) => "ticked",
+            Answer::Written(_) => "written",
+            Answer::Refused => "refused",
         }
     }
 }
@@ -91,16 +88,16 @@ impl Value for Answer {
     ] };
 
     ghost only = { elim [
-      | [] ↦ λ x u e. let z : ◌≡◌ {A = ℕ} 0 1 = cc in absurd (omega arith)
-      | a ∷ [] ↦ λ x u e. let z : ◌≡◌ {A = ℕ} 0 1 = cc in absurd (omega arith)
-      | a ∷ b ∷ [] ↦ λ x u e. let z : ◌≡◌ {A = ℕ} 0 1 = cc in absurd (omega arith)
+      | [] ↦ λ x u e. cc
+      | a ∷ [] ↦ λ x u e. cc
+      | a ∷ b ∷ [] ↦ λ x u e. cc
       | a ∷ b ∷ c ∷ [] ↦
           λ x u e.
           let p = of_parts a (b * 256 + c) x e in
           let high : number_of x / 256 ≡ b = omega arith in
           let low : number_of x % 256 ≡ c = omega arith in
           cc
-      | a ∷ b ∷ c ∷ d ∷ more ↦ λ x u e. let z : ◌≡◌ {A = ℕ} 0 1 = cc in absurd (omega arith)
+      | a ∷ b ∷ c ∷ d ∷ more ↦ λ x u e. cc
     ] };
 
     fn width() -> usize {
@@ -116,20 +113,11 @@ impl Value for Answer {
         let [case, high, low] = from else {
             return None;
         };
-        let number = u16::from_be_bytes([*high, *low]);
-        match *case {
-            BLANK => if number == 0 {
-                Some(Answer::Blank)
-            } else {
-                None
-            },
-            TICKED => Some(Answer::Ticked(BoxNumber::new(number)?)),
-            WRITTEN => Some(Answer::Written(number)),
-            REFUSED => if number == 0 {
-                Some(Answer::Refused)
-            } else {
-                None
-            },
+        match (*case, u16::from_be_bytes([*high, *low])) {
+            (BLANK, 0) => Some(Answer::Blank),
+            (TICKED, number) => Some(Answer::Ticked(BoxNumber::try_from(number).ok()?)),
+            (WRITTEN, number) => Some(Answer::Written(number)),
+            (REFUSED, 0) => Some(Answer::Refused),
             _ => None,
         }
     }
@@ -140,12 +128,6 @@ impl fmt::Display for Answer {
     ghost output = { λ a. Some (answer_text a) };
 
     fn fmt<W: fmt::Write>(&self, f: &mut fmt::Formatter<W>) -> fmt::Result {
-        let number = self.number();
-        match self {
-            Answer::Blank => write!(f, "blank {number}"),
-            Answer::Ticked(_) => write!(f, "ticked {number}"),
-            Answer::Written(_) => write!(f, "written {number}"),
-            Answer::Refused => write!(f, "refused {number}"),
-        }
+        write!(f, "{} {}", self.case_name(), self.number())
     }
 }

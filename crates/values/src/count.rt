@@ -51,7 +51,6 @@ impl fmt::Display for Count {
     ghost output = { λ c. Some (decimal c.number) };
 
     fn fmt<W: fmt::Write>(&self, f: &mut fmt::Formatter<W>) -> fmt::Result {
-        let number = self.number;
-        write!(f, "{number}")
+        write!(f, "{}", self.number)
     }
 }

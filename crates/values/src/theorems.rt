@@ -2,5 +2,7 @@ ghost use Rattle.values.specs.Examples.{Box99ReadsAnd100DoesNot, OtherBytesDoNot
 
 // Worked examples of values in bytes.
 pub fn examples_hold()
-    ensures { (Box99ReadsAnd100DoesNot) × ((OtherBytesDoNotRead) × (HighestByteFirst)) }
+    ensures boxes { Box99ReadsAnd100DoesNot }
+    ensures others { OtherBytesDoNotRead }
+    ensures order { HighestByteFirst }
 {}

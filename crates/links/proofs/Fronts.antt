@@ -1,11 +1,12 @@
 -- The message at the front of a slot. Assumes nothing.
-use Rattle.std.proofs.Common.{◌≡◌, ℕ, ◌+◌, ◌*◌, ◌/◌, ◌%◌, true, List, [], ◌∷◌, ◌++◌, length, take, drop, Some, None, Option, sym, refl, ap, ◌∙◌, ⊎_elim, append-nil, arith}
+use Rattle.std.proofs.Common.{◌≡◌, ℕ, ◌+◌, ◌*◌, ◌/◌, ◌%◌, true, List, [], ◌∷◌, ◌++◌, length, take, drop, Some, None, Option, unwrap_or, sym, refl, ap, ◌∙◌, ⊎_elim, append-nil, arith}
 use Rattle.std.proofs.lemmas.Bool.{cond-true, cond-false, cases_Bool, and_parts, and_from, eqb-true, eq-eqb}
 use Rattle.std.proofs.lemmas.List.{length-append, take-append-drop, take_at, nil_from_length}
 use Rattle.messages.specs.declared.message.Kind.{Kind}
 use Rattle.messages.specs.declared.message.Kind.TheVariants.{ShReq, ExReq, ShRep, ExRep, WbReq, FlushReq, InvReq, WbRep, FlushRep, InvRep}
 use Rattle.messages.specs.declared.message.Message.{Message}
 use Rattle.messages.specs.Bytes.{value_of, value_field, message_bytes, max_size}
+use Rattle.messages.specs.Reading.{Reads}
 use Rattle.links.specs.Slots.{begins, plain_kinds, value_kinds, message_of, among, front_message}
 
 begins_self : (bs rest : List ℕ) → begins bs (bs ++ rest) ≡ true
@@ -89,3 +90,8 @@ module _ {V : Type 0} (bytes : V → List ℕ) (reads : List ℕ → Option V) (
             let size = fixed v in
             let over : length rest ≡ 0 = omega arith in
             no_whole m (e ∙ ap (λ (more : List ℕ). message_bytes bytes m ++ more) (nil_from_length rest over) ∙ append-nil (message_bytes bytes m))
+
+    -- after the whole slot was not a message
+    pub front_rest : ((m : Message V) → bs ≡ message_bytes bytes m → ⊥) → (o : Option (Message V)) → Reads (message_bytes bytes) (take 9 bs) o → unwrap_or o (message_of 0 ShReq) ≡ front_message bytes reads width bs
+    front_rest no_whole None no_plain = front_none no_whole no_plain
+    front_rest no_whole (Some m) plain = front_plain 9 m plain

@@ -1,5 +1,5 @@
 -- A message passed from one lane to another. Assumes nothing.
-use Rattle.std.proofs.Common.{◌≡◌, ℕ, Bool, true, false, ◌&&◌, eqb, ltb, List, [], ◌∷◌, ◌++◌, length, take, Some, None, Ok, Err, Result, sym, refl, ap, ◌∙◌, ⊎_elim, arith}
+use Rattle.std.proofs.Common.{◌≡◌, ℕ, Bool, true, false, ◌&&◌, eqb, ltb, List, [], ◌∷◌, ◌++◌, length, take, Some, None, Ok, Err, Option, Result, sym, refl, ap, ◌∙◌, ⊎_elim, arith}
 use Rattle.std.specs.List.{slice_get}
 use Rattle.std.proofs.lemmas.List.{length-append}
 use Rattle.std.proofs.lemmas.Bool.{cond-true, cond-false, cases_Bool, lt-ltb, and_from, and_left}
@@ -30,8 +30,9 @@ pub record Forwarding {X : Type 0} (v : LaneView X) (from to : Lane) (s : ℕ) (
   pub left_as : after ≡ forwarded v from to s
 
 module _ {X : Type 0} (v : LaneView X) (from to : Lane) (s : ℕ) where
-  pub forward_none : None ≡ slice_get (v.waiting from s) 0 → Forwarding v from to s (Err (record {})) v
-  forward_none e =
+  pub forward_none : (oldest : Option X) → None ≡ oldest → oldest ≡ slice_get (v.waiting from s) 0 → Forwarding v from to s (Err (record {})) v
+  forward_none oldest none is =
+      let e : None ≡ slice_get (v.waiting from s) 0 = none ∙ is in
       let off : can_forward v from to s ≡ false = and_left _ _ (nothing_first (v.waiting from s) e) in
       record { answered = sym (ap granted_if off); left_as = sym (cond-false _ _ _ off) }
 
@@ -43,8 +44,9 @@ module _ {X : Type 0} (v : LaneView X) (from to : Lane) (s : ℕ) where
       (λ apart. ap (λ (l : List X). ltb 0 (length l)) (cond-false _ _ _ apart) ∙ some)
       (cases_Bool (same_lane from to && eqb s s))
 
-  pub forward_some : (v₁ v₂ : LaneView X) (x : X) (r : Result (Unit {0}) Denied) → Some x ≡ slice_get (v.waiting from s) 0 → Ok tt ≡ granted_if (has_space v to s) → v₁ ≡ sent v to s x → r ≡ granted_if (some_wait v₁ from s) → v₂ ≡ dropped v₁ from s → Forwarding v from to s r v₂
-  forward_some v₁ v₂ x r e granted e₁ er e₂ =
+  pub forward_some : (v₁ v₂ : LaneView X) (x : X) (oldest : Option X) (r : Result (Unit {0}) Denied) → Some x ≡ oldest → oldest ≡ slice_get (v.waiting from s) 0 → Ok tt ≡ granted_if (has_space v to s) → v₁ ≡ sent v to s x → r ≡ granted_if (some_wait v₁ from s) → v₂ ≡ dropped v₁ from s → Forwarding v from to s r v₂
+  forward_some v₁ v₂ x oldest r found is granted e₁ er e₂ =
+      let e : Some x ≡ slice_get (v.waiting from s) 0 = found ∙ is in
       let some = something_first (v.waiting from s) x e in
       let space = was_granted (has_space v to s) granted in
       let can : can_forward v from to s ≡ true = and_from _ _ some space in

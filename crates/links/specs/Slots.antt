@@ -1,14 +1,16 @@
 -- Messages that stand in bytes, each at the front of its slot, and byte links over them. Assumes nothing.
-use Rattle.std.specs.Prelude.{ℕ, ◌+◌, ◌*◌, ◌/◌, Bool, true, false, cond, ◌&&◌, List, [], ◌∷◌, ◌++◌, map, length, take, drop, Some, None, Option, ◌==◌, slice_index}
+use Rattle.std.specs.Prelude.{ℕ, ◌+◌, ◌*◌, ◌/◌, Bool, true, false, cond, ◌&&◌, List, [], ◌∷◌, ◌++◌, map, length, take, drop, Some, None, Option, ◌==◌, nat_le, slice_index}
 use Rattle.std.specs.List.{range_with_len}
 use Rattle.messages.specs.declared.message.Kind.{Kind}
 use Rattle.messages.specs.declared.message.Kind.TheVariants.{ShReq, ExReq, ShRep, ExRep, WbReq, FlushReq, InvReq, WbRep, FlushRep, InvRep}
 use Rattle.messages.specs.declared.message.Message.{Message}
 use Rattle.messages.specs.Bytes.{message_bytes, max_size}
+use Rattle.queues.specs.declared.table.Table.{Table}
+use Rattle.queues.specs.View.{RowsView, empty_rows}
 use Rattle.queues.specs.Places.{view_in}
+use Rattle.links.specs.declared.bytes.ByteLinks.{ByteLinks}
 use Rattle.links.specs.View.{LaneView}
 use Rattle.links.specs.Lanes.{lanes_of}
-use Rattle.links.specs.declared.bytes.ByteLinks.{ByteLinks}
 
 -- whether the slot begins with these bytes
 unfoldable pub begins : List ℕ → List ℕ → Bool
@@ -26,6 +28,10 @@ value_kinds (Some v) = ShRep v ∷ ExRep v ∷ WbRep v ∷ FlushRep v ∷ []
 abbrev pub message_of : {V : Type 0} → ℕ → Kind V → Message V
 message_of page kind = record { page = page; kind = kind }
 
+-- what a table means where all its places must lie among the entries: it has no row where they are too few
+abbrev pub served : {X : Type 0} → List X → Table → RowsView X
+served entries t = cond (nat_le (t.rows * t.places) (length entries)) (view_in entries t) (empty_rows 0 t.places)
+
 -- values are written as `bytes`, `width` of them, and read by `reads`
 module _ {V : Type 0} (bytes : V → List ℕ) (reads : List ℕ → Option V) (width : ℕ) where
   -- the message of this page and one of these kinds with whose bytes the slot begins; where there is none, ShReq of page 0
@@ -41,6 +47,6 @@ module _ {V : Type 0} (bytes : V → List ℕ) (reads : List ℕ → Option V) (
   unfoldable pub slots : List ℕ → List (Message V)
   slots memory = map (λ i. front_message (take (max_size width) (drop (i * max_size width) memory))) (range_with_len 0 (length memory / max_size width))
 
-  -- what byte links mean
+  -- what byte links mean; over fewer slots than the rows of their table need they serve no station
   abbrev pub byte_view : ByteLinks → LaneView (Message V)
-  byte_view links = lanes_of (view_in (slots links.memory.now) links.table)
+  byte_view links = lanes_of (served (slots links.memory.now) links.table)

@@ -15,9 +15,7 @@ pub fn forward<M: Copy, L: Links<M>>(
     ensures answer { result ≡ granted_if (can_forward (L.view links.old) from to station) }
     ensures after { L.view links.new ≡ forwarded (L.view links.old) from to station }
 {
-    let Some(message) = links.oldest(from, station) else {
-        return Err(Denied);
-    };
+    let message = links.oldest(from, station).ok_or(Denied)?;
     links.send(to, station, message)?;
     links.drop_oldest(from, station)
 }

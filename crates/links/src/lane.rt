@@ -5,12 +5,13 @@ ghost use Rattle.links.specs.View.{LaneView, Sound, has_space, sent, some_wait, 
 
 use queues::denied::Denied;
 
-// The lanes of a station: its requests to the home, its replies to the home, and all that the home sends down to it.
+// The lanes of a station: its requests to the home, its replies to the home, and all that the home sends down to it. The
+// number of a lane is that of its row among the station's.
 #[derive(Clone, Copy, PartialEq, Eq, Debug)]
 pub enum Lane {
-    Request,
-    Reply,
-    Down,
+    Request = 0,
+    Reply = 1,
+    Down = 2,
 }
 
 // Three lanes of waiting messages for each of a number of stations. What links mean is `view`.

@@ -25,20 +25,24 @@ impl<V: Copy> Links<Message<V>> for Queues<'_, Message<V>> {
     }
 
     fn waiting(&self, lane: Lane, station: usize) -> usize {
-        Queues::waiting(self, row(self.rows(), lane, station))
+        let Some(row) = row(self.rows(), lane, station) else {
+            return 0;
+        };
+        Queues::waiting(self, row)
     }
 
     fn oldest(&self, lane: Lane, station: usize) -> Option<Message<V>> {
-        Queues::oldest(self, row(self.rows(), lane, station))
+        let row = row(self.rows(), lane, station)?;
+        Queues::oldest(self, row)
     }
 
     fn send(&mut self, lane: Lane, station: usize, message: Message<V>) -> Result<(), Denied> {
-        let row = row(self.rows(), lane, station);
+        let row = row(self.rows(), lane, station).ok_or(Denied)?;
         self.put(row, message)
     }
 
     fn drop_oldest(&mut self, lane: Lane, station: usize) -> Result<(), Denied> {
-        let row = row(self.rows(), lane, station);
+        let row = row(self.rows(), lane, station).ok_or(Denied)?;
         Queues::drop_oldest(self, row)
     }
 }
@@ -52,6 +56,7 @@ pub fn record_links<'a, V: Copy>(
 ) -> Queues<'a, Message<V>>
     ensures { lanes_of (view_of result) ≡ made (length entries.old) 1 stations room }
 {
-    let (rows, places) = sizes(stations, room);
+    // Queues of no rows serve no station.
+    let (rows, places) = sizes(stations, room).unwrap_or((0, 0));
     Queues::new(entries, rows, places)
 }

@@ -14,6 +14,7 @@ pub(crate) fn slot_count<V: Value>(size: usize) -> usize
 }
 
 // The message in a slot.
+#[tactic(auto, using(crate::proofs::Slots::slot_ends))]
 pub(crate) fn read_slot<V: Value>(memory: &[u8], place: usize) -> Message<V>
     requires { place < length (slots V.bytes V.reads V.width memory.now) }
     ensures { result ≡ slice_index_or (slots V.bytes V.reads V.width memory.now) place result }
@@ -23,7 +24,9 @@ pub(crate) fn read_slot<V: Value>(memory: &[u8], place: usize) -> Message<V>
     front_message(&memory[start..start + size])
 }
 
-// Puts a message into a slot.
+// Puts a message into a slot, by the slot's bounds: of what is written through `chunks_exact_mut` a proof knows the length
+// alone.
+#[tactic(auto, using(crate::proofs::Slots::slot_ends))]
 pub(crate) fn write_slot<V: Value>(memory: &mut [u8], place: usize, message: &Message<V>)
     requires { place < length (slots V.bytes V.reads V.width memory.old) }
     ensures { slots V.bytes V.reads V.width memory.new ≡ slice_set (slots V.bytes V.reads V.width memory.old) place message.now }
@@ -39,15 +42,12 @@ fn front_message<V: Value>(slot: &[u8]) -> Message<V>
     requires { length slot.now ≡ max_size V.width }
     ensures { result ≡ front_message V.bytes V.reads V.width slot.now }
 {
-    match read(slot) {
-        Some(message) => message,
-        None => match read(&slot[0..PLAIN_SIZE]) {
-            Some(message) => message,
-            // No message was written here.
-            None => Message {
-                page: 0,
-                kind: Kind::ShReq,
-            },
-        },
+    if let Some(message) = read(slot) {
+        return message;
     }
+    // Where there is none, no message was written here.
+    read(&slot[0..PLAIN_SIZE]).unwrap_or(Message {
+        page: 0,
+        kind: Kind::ShReq,
+    })
 }

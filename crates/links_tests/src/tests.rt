@@ -104,13 +104,8 @@ fn check_apart<L: Links<Message<Count>>>(rt: &impl Abort, links: &mut L) {
 
 // A message of its own for each place.
 fn number_of(lane: Lane, station: usize, place: usize) -> Message<Count> {
-    let number = match lane {
-        Lane::Request => 0usize,
-        Lane::Reply => 1,
-        Lane::Down => 2,
-    };
     numbered(
-        number
+        (lane as usize)
             .wrapping_add(station.wrapping_mul(3))
             .wrapping_mul(17)
             .wrapping_add(place),
@@ -198,11 +193,7 @@ fn check_alike<A: Links<Message<Count>>, B: Links<Message<Count>>>(
     let mut state: usize = 1;
     for step in 0..600 {
         state = state.wrapping_mul(25173).wrapping_add(13849) % 65536;
-        let lane = match state / 8 % 3 {
-            0 => Lane::Request,
-            1 => Lane::Reply,
-            _ => Lane::Down,
-        };
+        let lane = LANES[state / 8 % 3];
         let station = state / 64 % 5;
         if state / 1024 % 5 < 3 {
             let message = numbered(step);

@@ -33,9 +33,9 @@ module _ (places row : ℕ) where
   first_place column zero h = let z : ⊥ = omega arith in absurd z
   first_place column (suc count) h = refl
 
-  pub places_inside : (rows entries column count : ℕ) → row < rows → rows * places ≤ entries → count ≤ places → AllByRecursion (λ place. place < entries) (places_from places row column count)
-  places_inside rows entries column count h fits g =
-      All-map (λ place. place < entries) (λ k. row * places + k % places) (range_with_len column count)
+  pub places_inside : (rows column count : ℕ) → row < rows → count ≤ places → AllByRecursion (λ place. place < rows * places) (places_from places row column count)
+  places_inside rows column count h g =
+      All-map (λ place. place < rows * places) (λ k. row * places + k % places) (range_with_len column count)
       (all_counting _ column count (λ k low high. omega (arith, row_below row rows places h, mod-lt k {m = places} (omega arith))))
 
   -- one place more

@@ -1,11 +1,11 @@
 -- What a table's rows are, before and after its calls. Assumes nothing.
-use Rattle.std.proofs.Common.{◌≡◌, ℕ, ◌+◌, ◌-◌, ◌*◌, ◌%◌, ◌<◌, ◌≤◌, Bool, true, false, cond, eqb, ltb, leb, ◌≢◌, List, [], ◌∷◌, ◌++◌, length, drop, set, replicate, Some, None, sym, refl, ap, ◌∙◌, subst, ⊎_elim, mod-lt, mod-eq_of_lt, arith}
+use Rattle.std.proofs.Common.{◌≡◌, ℕ, ◌+◌, ◌-◌, ◌*◌, ◌%◌, ◌<◌, ◌≤◌, Bool, true, false, cond, eqb, ltb, ◌≢◌, List, [], ◌∷◌, ◌++◌, length, drop, set, replicate, Some, None, sym, refl, ap, ◌∙◌, subst, ⊎_elim, mod-lt, mod-eq_of_lt, arith}
 use Rattle.std.specs.List.{AllByRecursion, slice_get}
 use Rattle.std.proofs.lemmas.List.{get_or-set_same, get_or-set_other, get_or-replicate, get_or_past, length-replicate, nil_from_length}
-use Rattle.std.proofs.lemmas.Bool.{cond-true, cond-false, cond_both, lt-ltb, le-ltb, ltb-true, ltb-false, leb-true, le-leb, eq-eqb, ne_eqb, cases_Bool, cases_eq, cases_lt, and_from, and_right}
+use Rattle.std.proofs.lemmas.Bool.{cond-true, cond-false, cond_both, lt-ltb, le-ltb, ltb-true, ltb-false, eq-eqb, ne_eqb, cases_eq, cases_lt, and_from, and_right}
 use Rattle.queues.specs.View.{RowsView, changed, with_row, can_put, can_drop, after_drop, most_rows, empty_rows}
-use Rattle.queues.specs.Positions.{nothing, position_of, next_column, oldest_column, Within}
-use Rattle.queues.specs.Places.{served, position_in, places_from, places_at, row_places, places_over, places_in, Taken, NotTaken}
+use Rattle.queues.specs.Positions.{nothing, position_of, position_in, next_column, oldest_column}
+use Rattle.queues.specs.Places.{places_from, places_at, row_places, places_over, places_of, Taken, NotTaken}
 use Rattle.queues.specs.declared.position.Position.{Position}
 use Rattle.queues.specs.declared.table.Table.{Table}
 use Rattle.queues.proofs.Rounds.{row_below, length_places, first_place, places_inside, places_longer, places_shorter, free_here, free_there}
@@ -36,144 +36,133 @@ none_cond : {X : Type 0} (test : Bool) (y : X) → None ≡ cond test (Some y) N
 none_cond true y e = let z : ◌≡◌ {A = ℕ} 0 1 = cc in let w : ⊥ = omega arith in absurd w
 none_cond false y e = refl
 
--- whether the oldest of a row could be dropped, and what is left
-pub record Dropping {X : Type 0} (row : ℕ) (before : RowsView X) (could : Bool) (after : RowsView X) : Type 0 where
-  pub can : could ≡ can_drop before row
-  pub after_drop_lem : after ≡ after_drop before row
+-- how many wait in a row
+pub waiting_of : (rows places : ℕ) (positions : List Position) (row : ℕ) (p : Position) → p ≡ position_in rows positions row → p.waiting ≡ length (row_places rows places positions row)
+unfolding row_places
+waiting_of rows places positions row p e =
+    let q : Position = position_in rows positions row in
+    ap (λ (p : Position). p.waiting) e ∙ sym (length_places places row q.oldest q.waiting)
 
-pub served_few : (entries : ℕ) (t : Table) → served entries t.rows t.places ≤ most_rows
-served_few entries t = cond_both (leb (t.rows * t.places) entries) t.rows 0 (λ n. n ≤ most_rows) (λ e. t.few) (λ e. omega arith)
-
--- a row of a table over so many entries
-module _ (entries : ℕ) (t : Table) (row : ℕ) where
+-- a row of a table
+module _ (t : Table) (row : ℕ) where
   abbrev position : Position
-  position = position_in entries t.rows t.places t.positions row
+  position = position_in t.rows t.positions row
 
-  pub waiting_is : position.waiting ≡ length ((places_in entries t).row row)
-  unfolding row_places
-  waiting_is = sym (length_places t.places row position.oldest position.waiting)
+  pub waiting_is : position.waiting ≡ length ((places_of t).row row)
+  waiting_is = waiting_of t.rows t.places t.positions row position refl
 
-  position_within : (position.oldest ≤ t.places - 1) × (position.waiting ≤ t.places)
-  position_within =
-      cond_both (ltb row (served entries t.rows t.places)) (position_of t.positions row) nothing (λ p. (p.oldest ≤ t.places - 1) × (p.waiting ≤ t.places)) (λ e. t.within row) (λ e. (omega arith, omega arith))
+  oldest_within : position.oldest ≤ t.places - 1
+  oldest_within = cond_both (ltb row t.rows) (position_of t.positions row) nothing (λ p. p.oldest ≤ t.places - 1) (λ e. t.oldest_within row) (λ e. omega arith)
 
-  pub waiting_few : length ((places_in entries t).row row) ≤ t.places
-  waiting_few = omega (arith, waiting_is, position_within.1)
+  waiting_within : position.waiting ≤ t.places
+  waiting_within = cond_both (ltb row t.rows) (position_of t.positions row) nothing (λ p. p.waiting ≤ t.places) (λ e. t.waiting_within row) (λ e. omega arith)
 
-  pub row_missing : served entries t.rows t.places ≤ row → (places_in entries t).row row ≡ []
+  pub waiting_few : length ((places_of t).row row) ≤ t.places
+  waiting_few = omega (arith, waiting_is, waiting_within)
+
+  pub row_missing : t.rows ≤ row → (places_of t).row row ≡ []
   unfolding row_places
   row_missing h = ap (places_at t.places row) (cond-false _ _ _ (le-ltb _ _ h))
 
-  -- what is known of a row that is there
-  module _ (h : row < served entries t.rows t.places) where
-    enough : (row < t.rows) × (t.rows * t.places ≤ entries)
-    enough =
-        ⊎_elim
-        (λ e. let all : served entries t.rows t.places ≡ t.rows = cond-true _ _ _ e in (omega arith, leb-true _ _ e))
-        (λ e. let none : served entries t.rows t.places ≡ 0 = cond-false _ _ _ e in let z : ⊥ = omega arith in absurd z)
-        (cases_Bool (leb (t.rows * t.places) entries))
-
-    position_is : position ≡ position_of t.positions row
-    position_is = cond-true _ _ _ (lt-ltb _ _ h)
+  position_is : row < t.rows → position ≡ position_of t.positions row
+  position_is h = cond-true _ _ _ (lt-ltb _ _ h)
 
   -- something waits only in a row that is there
-  row_there : 0 < position.waiting → row < served entries t.rows t.places
+  row_there : 0 < position.waiting → row < t.rows
   row_there some =
-      ⊎_elim (λ lt. lt) (λ ge. let z : position.waiting ≡ 0 = ap (λ (p : Position). p.waiting) (cond-false _ _ _ (le-ltb row _ ge)) in let w : ⊥ = omega arith in absurd w) (cases_lt row (served entries t.rows t.places))
+      ⊎_elim (λ lt. lt) (λ ge. let z : position.waiting ≡ 0 = ap (λ (p : Position). p.waiting) (cond-false _ _ _ (le-ltb row _ ge)) in let w : ⊥ = omega arith in absurd w) (cases_lt row t.rows)
 
-  -- the places of a row lie among the entries
-  pub places_in_lem : AllByRecursion (λ place. place < entries) ((places_in entries t).row row)
+  -- the places of a row are the table's
+  pub inside : AllByRecursion (λ place. place < t.rows * t.places) ((places_of t).row row)
   unfolding row_places
-  places_in_lem =
+  inside =
       ⊎_elim
-      (λ h. let e = enough h in places_inside t.places row t.rows entries position.oldest position.waiting e.0 e.1 position_within.1)
-      (λ h. subst (AllByRecursion (λ place. place < entries)) (sym (row_missing h)) tt)
-      (cases_lt row (served entries t.rows t.places))
+      (λ h. places_inside t.places row t.rows position.oldest position.waiting h waiting_within)
+      (λ h. subst (AllByRecursion (λ place. place < t.rows * t.places)) (sym (row_missing h)) tt)
+      (cases_lt row t.rows)
 
-  pub oldest_is : (column place : ℕ) → Some column ≡ oldest_column position → place ≡ row * t.places + column → Some place ≡ slice_get ((places_in entries t).row row) 0
+  pub oldest_is : (column place : ℕ) → Some column ≡ oldest_column position → place ≡ row * t.places + column → Some place ≡ slice_get ((places_of t).row row) 0
   unfolding row_places
   oldest_is column place e f =
       let q = some_cond (ltb 0 position.waiting) column position.oldest e in
       let some : 0 < position.waiting = ltb-true _ _ q.0 in
-      let low : position.oldest < t.places = omega (arith, position_within.0, position_within.1) in
+      let low : position.oldest < t.places = omega (arith, oldest_within, waiting_within) in
       let here : place ≡ row * t.places + position.oldest % t.places = f ∙ ap (λ n. row * t.places + n) (q.1 ∙ sym (mod-eq_of_lt low)) in
       ap (λ (n : ℕ). Some n) here ∙ sym (first_place t.places row position.oldest position.waiting some)
 
-  pub oldest_missing : None ≡ oldest_column position → None ≡ slice_get ((places_in entries t).row row) 0
+  pub oldest_missing : None ≡ oldest_column position → None ≡ slice_get ((places_of t).row row) 0
   oldest_missing e =
       let none = ltb-false _ _ (none_cond (ltb 0 position.waiting) position.oldest e) in
-      ap (λ list. slice_get list 0) (sym (nil_from_length ((places_in entries t).row row) (omega (arith, waiting_is))))
+      ap (λ list. slice_get list 0) (sym (nil_from_length ((places_of t).row row) (omega (arith, waiting_is))))
 
-  pub row_full : None ≡ next_column t.places position → NotTaken row (places_in entries t) (places_in entries t)
+  pub row_full : None ≡ next_column t.places position → NotTaken row (places_of t) (places_of t)
   row_full e = record { full = and_right _ _ (ap (λ n. ltb n t.places) (sym waiting_is) ∙ none_cond _ _ e); same = refl }
 
   -- the place after the newest of a row is in no row
-  free_in : position.waiting < t.places → (other : ℕ) → AllByRecursion (λ used. used ≢ row * t.places + (position.oldest + position.waiting) % t.places) ((places_in entries t).row other)
+  free_in : position.waiting < t.places → (other : ℕ) → AllByRecursion (λ used. used ≢ row * t.places + (position.oldest + position.waiting) % t.places) ((places_of t).row other)
   unfolding row_places
   free_in space other =
       let next : ℕ = row * t.places + (position.oldest + position.waiting) % t.places in
       ⊎_elim
-      (λ same. subst (λ r. AllByRecursion (λ used. used ≢ next) ((places_in entries t).row r)) (sym same) (free_here t.places row position.oldest position.waiting space))
+      (λ same. subst (λ r. AllByRecursion (λ used. used ≢ next) ((places_of t).row r)) (sym same) (free_here t.places row position.oldest position.waiting space))
       (λ ne. free_there t.places row position.oldest position.waiting space other _ _ ne)
       (cases_eq other row)
 
   -- a table with another position for a row that is there
-  module _ (h : row < served entries t.rows t.places) (p' : Position) where
-    moved : places_over entries t.rows t.places (set t.positions row p') ≡ with_row (places_in entries t) row (places_at t.places row p')
+  module _ (h : row < t.rows) (p' : Position) where
+    moved : places_over t.rows t.places (set t.positions row p') ≡ with_row (places_of t) row (places_at t.places row p')
     unfolding row_places
     moved =
-        let after : RowsView ℕ = places_over entries t.rows t.places (set t.positions row p') in
-        let here = get_or-set_same t.positions row p' nothing (omega (arith, (enough h).0, t.few, t.sized)) in
-        same_views after (with_row (places_in entries t) row (places_at t.places row p')) refl refl
-        (same_changed (places_in entries t).row after.row row (places_at t.places row p')
+        let after : RowsView ℕ = places_over t.rows t.places (set t.positions row p') in
+        let here = get_or-set_same t.positions row p' nothing (omega (arith, h, t.few, t.sized)) in
+        same_views after (with_row (places_of t) row (places_at t.places row p')) refl refl
+        (same_changed (places_of t).row after.row row (places_at t.places row p')
         (ap (places_at t.places row) (cond-true _ _ _ (lt-ltb _ _ h) ∙ here))
-        (λ other ne. ap (λ p. places_at t.places other (cond (ltb other (served entries t.rows t.places)) p nothing)) (get_or-set_other t.positions row other p' nothing ne)))
+        (λ other ne. ap (λ p. places_at t.places other (cond (ltb other t.rows) p nothing)) (get_or-set_other t.positions row other p' nothing ne)))
 
-    pub taken : (column place : ℕ) → Some column ≡ next_column t.places position → place ≡ row * t.places + column → p'.oldest ≡ (position_of t.positions row).oldest → p'.waiting ≡ (position_of t.positions row).waiting + 1 → Taken entries row place (places_in entries t) (places_over entries t.rows t.places (set t.positions row p'))
+    pub taken : (column place : ℕ) → Some column ≡ next_column t.places position → place ≡ row * t.places + column → p'.oldest ≡ (position_of t.positions row).oldest → p'.waiting ≡ (position_of t.positions row).waiting + 1 → Taken row place (places_of t) (places_over t.rows t.places (set t.positions row p'))
     unfolding row_places
     taken column place e f oldest waiting =
         let q = some_cond (ltb position.waiting t.places) column ((position.oldest + position.waiting) % t.places) e in
         let space : position.waiting < t.places = ltb-true _ _ q.0 in
         let is : place ≡ row * t.places + (position.oldest + position.waiting) % t.places = f ∙ ap (λ n. row * t.places + n) q.1 in
-        let room : can_put (places_in entries t) row ≡ true = and_from _ _ (lt-ltb _ _ h) (lt-ltb _ _ (omega (arith, waiting_is))) in
+        let room : can_put (places_of t) row ≡ true = and_from _ _ (lt-ltb _ _ h) (lt-ltb _ _ (omega (arith, waiting_is))) in
         let same = sym (position_is h) in
-        let list : places_at t.places row p' ≡ (places_in entries t).row row ++ place ∷ [] =
+        let list : places_at t.places row p' ≡ (places_of t).row row ++ place ∷ [] =
         (λ i. places_from t.places row ((oldest ∙ ap (λ (p : Position). p.oldest) same) i) ((waiting ∙ ap (λ (p : Position). p.waiting + 1) same) i))
         ∙ places_longer t.places row position.oldest position.waiting
-        ∙ ap (λ n. (places_in entries t).row row ++ n ∷ []) (sym is) in
+        ∙ ap (λ n. (places_of t).row row ++ n ∷ []) (sym is) in
         record {
           room = room;
-          inside = omega (arith, row_below row t.rows t.places (enough h).0, (enough h).1, mod-lt (position.oldest + position.waiting) {m = t.places} (omega arith));
-          free = subst (λ n. (other : ℕ) → AllByRecursion (λ used. used ≢ n) ((places_in entries t).row other)) (sym is) (free_in space);
-          newest = moved ∙ ap (with_row (places_in entries t) row) list ∙ sym (cond-true _ _ _ room);
+          inside = omega (arith, row_below row t.rows t.places h, mod-lt (position.oldest + position.waiting) {m = t.places} (omega arith));
+          free = subst (λ n. (other : ℕ) → AllByRecursion (λ used. used ≢ n) ((places_of t).row other)) (sym is) (free_in space);
+          newest = moved ∙ ap (with_row (places_of t) row) list ∙ sym (cond-true _ _ _ room);
         }
 
-  pub given_up : (p' : Position) → 0 < position.waiting → p'.oldest ≡ ((position_of t.positions row).oldest + 1) % t.places → p'.waiting ≡ (position_of t.positions row).waiting - 1 → Dropping row (places_in entries t) true (places_over entries t.rows t.places (set t.positions row p'))
+  pub given_up : (p' : Position) → 0 < position.waiting → p'.oldest ≡ ((position_of t.positions row).oldest + 1) % t.places → p'.waiting ≡ (position_of t.positions row).waiting - 1 → places_over t.rows t.places (set t.positions row p') ≡ after_drop (places_of t) row
   unfolding row_places
   given_up p' some oldest waiting =
       let h = row_there some in
-      let can : can_drop (places_in entries t) row ≡ true = lt-ltb _ _ (omega (arith, waiting_is)) in
+      let can : can_drop (places_of t) row ≡ true = lt-ltb _ _ (omega (arith, waiting_is)) in
       let same = sym (position_is h) in
-      let list : places_at t.places row p' ≡ drop 1 ((places_in entries t).row row) =
+      let list : places_at t.places row p' ≡ drop 1 ((places_of t).row row) =
       (λ i. places_from t.places row ((oldest ∙ ap (λ (p : Position). (p.oldest + 1) % t.places) same) i) ((waiting ∙ ap (λ (p : Position). p.waiting - 1) same) i))
       ∙ places_shorter t.places row position.oldest position.waiting some in
-      record { can = sym can; after_drop_lem = moved h p' ∙ ap (with_row (places_in entries t) row) list ∙ sym (cond-true _ _ _ can) }
+      moved h p' ∙ ap (with_row (places_of t) row) list ∙ sym (cond-true _ _ _ can)
 
 -- a table in which nothing waits
 fresh_position : (row : ℕ) → position_of (replicate most_rows nothing) row ≡ nothing
 fresh_position row =
     ⊎_elim (λ h. get_or-replicate most_rows row nothing nothing h) (λ h. get_or_past (replicate most_rows nothing) row nothing (omega (arith, length-replicate most_rows nothing))) (cases_lt row most_rows)
 
-pub fresh_within : (places : ℕ) (p : Position) → p ≡ nothing → Within places (replicate most_rows p)
-fresh_within places p e row =
-    let is = ap (λ q. position_of (replicate most_rows q) row) e ∙ fresh_position row in
-    (omega (arith, ap (λ (q : Position). q.oldest) is), omega (arith, ap (λ (q : Position). q.waiting) is))
+pub fresh_is : (p : Position) → p ≡ nothing → (row : ℕ) → position_of (replicate most_rows p) row ≡ nothing
+fresh_is p e row = ap (λ q. position_of (replicate most_rows q) row) e ∙ fresh_position row
 
-pub fresh_places : (entries rows places : ℕ) (p : Position) → p ≡ nothing → rows * places ≤ entries → places_over entries rows places (replicate most_rows p) ≡ empty_rows rows places
+pub fresh_places : (rows places : ℕ) (p : Position) → p ≡ nothing → places_over rows places (replicate most_rows p) ≡ empty_rows rows places
 unfolding row_places
-fresh_places entries rows places p e enough =
-    same_views (places_over entries rows places (replicate most_rows p)) (empty_rows rows places) (cond-true _ _ _ (le-leb _ _ enough)) refl
-    (λ row. ap (places_at places row) (either (ltb row (served entries rows places)) _ (ap (λ q. position_of (replicate most_rows q) row) e ∙ fresh_position row)))
+fresh_places rows places p e =
+    same_views (places_over rows places (replicate most_rows p)) (empty_rows rows places) refl refl
+    (λ row. ap (places_at places row) (either (ltb row rows) _ (fresh_is p e row)))
   where
     either : (test : Bool) (q : Position) → q ≡ nothing → cond test q nothing ≡ nothing
     either true q e = e

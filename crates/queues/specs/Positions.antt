@@ -10,6 +10,10 @@ nothing = record { oldest = 0; waiting = 0 }
 abbrev pub position_of : List Position → ℕ → Position
 position_of positions row = slice_index_or positions row nothing
 
+-- a row's position where there are so many rows; nothing waits in a row that is not there
+abbrev pub position_in : ℕ → List Position → ℕ → Position
+position_in rows positions row = cond (nat_lt row rows) (position_of positions row) nothing
+
 -- the column of the oldest entry, if one waits
 abbrev pub oldest_column : Position → Option ℕ
 oldest_column p = cond (nat_lt 0 p.waiting) (Some p.oldest) None
@@ -18,6 +22,10 @@ oldest_column p = cond (nat_lt 0 p.waiting) (Some p.oldest) None
 abbrev pub next_column : ℕ → Position → Option ℕ
 next_column places p = cond (nat_lt p.waiting places) (Some ((p.oldest + p.waiting) % places)) None
 
--- in each row the oldest entry lies at one of its places, and no more wait than it has
-abbrev pub Within : ℕ → List Position → Type 0
-Within places positions = (row : ℕ) → ((position_of positions row).oldest ≤ places - 1) × ((position_of positions row).waiting ≤ places)
+-- in each row the oldest entry lies at one of its places
+abbrev pub OldestWithin : ℕ → List Position → Type 0
+OldestWithin places positions = (row : ℕ) → (position_of positions row).oldest ≤ places - 1
+
+-- in each row no more entries wait than it has places
+abbrev pub WaitingWithin : ℕ → List Position → Type 0
+WaitingWithin places positions = (row : ℕ) → (position_of positions row).waiting ≤ places

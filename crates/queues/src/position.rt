@@ -2,7 +2,8 @@ ghost use Rattle.std.specs.Prelude.{◌≡◌, ◌+◌, ◌-◌, ◌%◌, ◌<�
 ghost use Rattle.queues.specs.View.{most_places};
 ghost use Rattle.queues.specs.Positions.{nothing, oldest_column, next_column};
 
-// Where the entries of one row lie: the column of the oldest, and how many wait from there on.
+// Where the entries of one row lie: the column of the oldest, and how many wait from there on. The bounds that its methods
+// require stand once, and sharper, in the table's ghost fields; ghost fields here would say them twice.
 #[derive(Clone, Copy)]
 pub(crate) struct Position {
     pub(crate) oldest: usize,
@@ -33,7 +34,8 @@ impl Position {
 
     // The column after the newest entry, if there is room.
     pub(crate) fn next_column(&self, places: usize) -> Option<usize>
-        requires { (self.now.oldest < most_places) × (self.now.waiting ≤ most_places) }
+        requires oldest { self.now.oldest < most_places }
+        requires waiting { self.now.waiting ≤ most_places }
         ensures { result ≡ next_column places self.now }
     {
         if self.waiting < places {
@@ -54,7 +56,9 @@ impl Position {
 
     // The oldest entry waits no more.
     pub(crate) fn shrink(&mut self, places: usize)
-        requires { (self.old.oldest < most_places) × ((0 < self.old.waiting) × (0 < places)) }
+        requires oldest { self.old.oldest < most_places }
+        requires waiting { 0 < self.old.waiting }
+        requires places { 0 < places }
         ensures oldest { self.new.oldest ≡ (self.old.oldest + 1) % places }
         ensures waiting { self.new.waiting ≡ self.old.waiting - 1 }
     {

@@ -9,4 +9,6 @@ of_one stations room n = ap (λ k. leb k n) (let e : stations * 3 * room ≡ 3 *
 
 pub returns : goal.returns
 returns g c =
-    made_lanes (view_of c.new.result) _ (length c.args.entries.now) 1 c.args.stations c.args.room c.sizes-rows.result (of_one c.args.stations c.args.room _) c.sizes-rows.ensures c.new.ensures
+    made_lanes (view_of c.new.result) _ (length c.args.entries.now) 1 c.args.stations c.args.room c.sizes.result c.unwrap_or-rows.result (of_one c.args.stations c.args.room _)
+    c.sizes.ensures c.unwrap_or-rows.ensures
+    c.new.ensures

@@ -1,21 +1,6 @@
-use Rattle.std.proofs.Common.{◌+◌, ◌*◌, ◌≤◌, length, sym, ◌∙◌, rules}
-use Rattle.links.proofs.Slots.{slot_ends, part_long, slot_written, written_front}
+use Rattle.std.proofs.Common.{sym, ◌∙◌}
+use Rattle.links.proofs.Slots.{part_long, slot_written, written_front}
 use Rattle.links.proofs.slot.write_slot.Goals as goal
-
-pub overflow_mul-start : goal.overflow_mul-start
-overflow_mul-start g c =
-    let h : c.args.place * c.max_size-size.result + c.max_size-size.result ≤ length c.args.memory.now = slot_ends g.V.Value.bytes g.V.Value.reads g.V.Value.width c.args.memory.now _ _ c.max_size-size.ensures c.requires in
-    search rules
-
-pub overflow_add-start : goal.overflow_add-start
-overflow_add-start g c =
-    let h : c.args.place * c.max_size-size.result + c.max_size-size.result ≤ length c.args.memory.now = slot_ends g.V.Value.bytes g.V.Value.reads g.V.Value.width c.args.memory.now _ _ c.max_size-size.ensures c.requires in
-    search rules
-
-pub slice_bounds-write-end : goal.slice_bounds-write-end
-slice_bounds-write-end g c =
-    let h : c.args.place * c.max_size-size.result + c.max_size-size.result ≤ length c.args.memory.now = slot_ends g.V.Value.bytes g.V.Value.reads g.V.Value.width c.args.memory.now _ _ c.max_size-size.ensures c.requires in
-    search rules
 
 pub returns : goal.returns
 returns g c =

@@ -1,14 +1,10 @@
-use Rattle.std.proofs.Common.{ap, ◌∙◌}
-use Rattle.queues.specs.View.{granted_if}
+use Rattle.std.proofs.Common.{◌≡◌, Some, arith}
 use Rattle.queues.specs.Places.{view_of}
-use Rattle.queues.proofs.Entries.{view_sound}
-use Rattle.links.proofs.Lanes.{can_drop_lem, drop_lanes}
+use Rattle.links.specs.Lanes.{row_of}
+use Rattle.links.proofs.Lanes.{drop_lanes}
 use Rattle.links.proofs.record.QueuesMessageLinksMessage.drop_oldest.Goals as goal
 
-pub returns : goal.returns
-returns g c =
-    let after = c.drop_oldest.ensures in
-    record {
-      answer = after.answer ∙ ap granted_if (can_drop_lem (view_of c.args.self.now) c.args.lane c.args.station c.rows.result _ c.rows.ensures c.row-row.ensures);
-      after = drop_lanes (view_of c.args.self.now) c.args.lane c.args.station c.rows.result _ c.rows.ensures c.row-row.ensures _ (view_sound c.args.self.now.entries.now c.args.self.now.table) after.after;
-    }
+pub returns-clause-after : goal.returns-clause-after
+returns-clause-after g c =
+    let row : Some c.in_ok-row.row ≡ row_of (view_of c.args.self.now).rows c.args.lane c.args.station = grind arith in
+    drop_lanes (view_of c.args.self.now) c.args.lane c.args.station c.in_ok-row.row row _ c.drop_oldest.ensures.after

@@ -11,11 +11,7 @@ const USAGE: &str = "call it as 'list counts' or 'list answers', with the script
 fn run(rt: &HostRuntime) -> anyhow::Result<()> {
     let heap = rt.alloc();
     let asked = env::args(rt)?.nth(1);
-    let Some(name) = asked else {
-        rt.println(USAGE)?;
-        return Ok(());
-    };
-    let Some(kind) = ScriptKind::named(name.as_str()) else {
+    let Some(Ok(kind)) = asked.map(|name| name.as_str().parse::<ScriptKind>()) else {
         rt.println(USAGE)?;
         return Ok(());
     };

@@ -1,100 +1,71 @@
-ghost use Rattle.std.specs.Prelude.{◌≡◌, IfOk, string_bytes};
-ghost use Rattle.script.specs.Records.{record_as};
+ghost use Rattle.std.specs.Prelude.{◌≡◌, List, ℕ, ◌++◌, OnOk, IfOk, string_bytes};
+ghost use Rattle.listing.specs.Words.{meaning, Prints};
 ghost use Rattle.listing.specs.Lines.{record_line, fault_line, Listing};
 
-use crate::words::{Listed, ListedValue, Meaning};
+use crate::words::Meaning;
 use script::fault::Fault;
 use script::field::Reader;
 use script::record::Record;
 use script::records::decode;
 use std::alloc::{AllocError, Global};
+use std::fmt;
+use values::kind::Value;
 
-// The line of a record: its number, the byte where its field begins and what it means.
-pub fn record_line(
-    heap: Global,
+// Writes the line of a record: its number, the byte where its field begins and what it means.
+pub fn record_line<V: Value + fmt::Display>(
+    text: &mut String,
     number: u32,
     at: usize,
-    record: Record<ListedValue>,
-) -> Result<String, AllocError>
-    ensures { IfOk result (λ line. string_bytes line ≡ record_line number at «record») }
+    record: Record<V>,
+) -> Result<(), AllocError>
+    ensures { (said : List ℕ) → meaning V.output «record» ≡ Some said → OnOk result (string_bytes text.new ≡ string_bytes text.old ++ record_line number at said) }
 {
     let meaning = Meaning { record };
-    format!(in heap; "{number} byte {at}: {meaning}\n")
+    write!(text, "{number} byte {at}: {meaning}\n")
 }
 
-// The line of a fault: the number that its record would have had, its byte, its layer and number, and what they mean.
-pub fn fault_line(heap: Global, number: u32, fault: Fault) -> Result<String, AllocError>
-    ensures { IfOk result (λ line. string_bytes line ≡ fault_line number fault) }
+// Writes the line of a fault: the number that its record would have had, its byte, its layer and number, and what they mean.
+pub fn fault_line(text: &mut String, number: u32, fault: Fault) -> Result<(), AllocError>
+    ensures { OnOk result (string_bytes text.new ≡ string_bytes text.old ++ fault_line number fault) }
 {
     let at = fault.at;
     let kind = fault.kind;
-    let (layer, code) = kind.numbers();
-    format!(in heap; "{number} byte {at}: fault {layer} {code}: {kind}\n")
-}
-
-// The record in words, with its value as a listing says it.
-fn in_words<V: Listed>(decoded: Record<V>) -> Record<ListedValue>
-    ensures { result ≡ record_as V.said decoded }
-{
-    match decoded {
-        Record::Prepare {
-            stations,
-            pages,
-            room,
-        } => Record::Prepare {
-            stations,
-            pages,
-            room,
-        },
-        Record::Set { page, value } => Record::Set {
-            page,
-            value: value.listed(),
-        },
-        Record::Start => Record::Start,
-        Record::Load { station, page } => Record::Load { station, page },
-        Record::Store {
-            station,
-            page,
-            value,
-        } => Record::Store {
-            station,
-            page,
-            value: value.listed(),
-        },
-        Record::Fire { kind, station } => Record::Fire { kind, station },
-        Record::Close => Record::Close,
-        Record::Readout { page } => Record::Readout { page },
-    }
+    let layer = u8::from(kind.layer());
+    let code = u8::from(kind);
+    write!(text, "{number} byte {at}: fault {layer} {code}: {kind}\n")
 }
 
 // The listing of a script of values of the kind `V`. Want of memory is the one error, and no contract can say
 // when it comes.
-pub fn list<V: Listed>(heap: Global, script: &[u8]) -> Result<String, AllocError>
-    ensures { IfOk result (λ text. Listing V.width V.reads V.said script.now (string_bytes text)) }
+pub fn list<V: Value + fmt::Display>(heap: Global, script: &[u8]) -> Result<String, AllocError>
+    ensures { Prints V.output → IfOk result (λ text. Listing V.width V.reads V.output script.now (string_bytes text)) }
 {
+    let mut text = String::new(heap);
     let mut reader = match Reader::new(script) {
         Ok(reader) => reader,
-        Err(fault) => return fault_line(heap, 0, fault),
+        Err(fault) => {
+            fault_line(&mut text, 0, fault)?;
+            return Ok(text);
+        }
     };
-    let mut text = String::new(heap);
     let mut number = 1;
+    // A fault ends the text and is no error of this call, so no `?` serves here; and a `for` over `1..` has an end, at the
+    // top of its type, that would have to be shown not to be reached.
     loop {
         let found = match reader.next_record::<V>() {
             Ok(found) => found,
             Err(fault) => {
-                let line = fault_line(heap, number, fault)?;
-                text.push_str(line.as_str())?;
+                fault_line(&mut text, number, fault)?;
                 return Ok(text);
             }
         };
         let Some(next) = found else {
             return Ok(text);
         };
-        let Some(decoded) = decode::<V>(next.record) else {
-            unreachable()
+        let Some(record) = decode::<V>(next.record) else {
+            unreachable!()
         };
-        let line = record_line(heap, number, next.at, in_words(decoded))?;
-        text.push_str(line.as_str())?;
+        record_line(&mut text, number, next.at, record)?;
         number += 1;
     }
 }

@@ -1,56 +1,10 @@
 ghost use Rattle.std.specs.Prelude.{◌≡◌, Some};
-ghost use Rattle.listing.specs.declared.words.ListedValue.{ListedValue as Said};
-ghost use Rattle.listing.specs.declared.words.ListedValue.TheVariants.{Count as ACount, Answer as AnAnswer};
-ghost use Rattle.listing.specs.Words.{value_words, firing_words, meaning_words};
+ghost use Rattle.listing.specs.Words.{firing_words, meaning};
 
 use protocol::firing::FiringKind;
 use script::record::Record;
 use std::fmt;
-use values::answer::Answer;
-use values::count::Count;
 use values::kind::Value;
-
-// A value of one of the kinds that can be listed.
-#[derive(Clone, Copy)]
-pub enum ListedValue {
-    Count(Count),
-    Answer(Answer),
-}
-
-// A kind of value that can be listed.
-pub trait Listed: Value {
-    ghost said: { Self → Said };
-
-    fn listed(self) -> ListedValue
-        ensures { result ≡ said self };
-}
-
-impl Listed for Count {
-    ghost said = { λ c. ACount c };
-
-    fn listed(self) -> ListedValue {
-        ListedValue::Count(self)
-    }
-}
-
-impl Listed for Answer {
-    ghost said = { λ a. AnAnswer a };
-
-    fn listed(self) -> ListedValue {
-        ListedValue::Answer(self)
-    }
-}
-
-impl fmt::Display for ListedValue {
-    ghost output = { λ v. Some (value_words v) };
-
-    fn fmt<W: fmt::Write>(&self, f: &mut fmt::Formatter<W>) -> fmt::Result {
-        match self {
-            ListedValue::Count(count) => write!(f, "{count}"),
-            ListedValue::Answer(answer) => write!(f, "{answer}"),
-        }
-    }
-}
 
 // A firing, as a listing says it.
 #[derive(Clone, Copy)]
@@ -76,14 +30,14 @@ impl fmt::Display for FiringWords {
     }
 }
 
-// A record, as a listing says it.
+// A record, as a listing says it; its value in the words of its kind.
 #[derive(Clone, Copy)]
-pub struct Meaning {
-    pub record: Record<ListedValue>,
+pub struct Meaning<V> {
+    pub record: Record<V>,
 }
 
-impl fmt::Display for Meaning {
-    ghost output = { λ x. Some (meaning_words x.record) };
+impl<V: Value + fmt::Display> fmt::Display for Meaning<V> {
+    ghost output = { λ x. meaning V.output x.record };
 
     fn fmt<W: fmt::Write>(&self, f: &mut fmt::Formatter<W>) -> fmt::Result {
         match self.record {

@@ -10,7 +10,7 @@ abbrev pub Low : Stations → Type 0
 Low D = (number : ℕ) → station_limit ≤ number → D number ≡ false
 
 among : (n : ℕ) (D : Stations) → ((k : ℕ) → k < n → D k ≡ false) ⊎ Someone D
-among zero D = inl (λ k h. let z : ⊥ = omega arith in absurd z)
+among zero D = inl (λ k h. absurd (omega arith))
 among (suc n) D =
     ⊎_elim
     (λ below.
@@ -21,7 +21,7 @@ among (suc n) D =
     (λ found. inr found)
     (among n D)
 
-pub empty_or_someone : (D : Stations) → ((number : ℕ) → station_limit ≤ number → D number ≡ false) → Empty D ⊎ Someone D
+pub empty_or_someone : (D : Stations) → Low D → Empty D ⊎ Someone D
 empty_or_someone D high =
     ⊎_elim
     (λ below. inl (λ k. ⊎_elim (λ h. below k h) (λ h. high k h) (cases_lt k station_limit)))

@@ -1,4 +1,5 @@
--- The rules leave no choice: of one cell or page and one message they give at most one step. Assumes nothing.
+-- The rules leave no choice: of one cell or page and one message they give at most one step, whatever the page names. Assumes
+-- nothing.
 use Rattle.std.proofs.Common.{◌≡◌, ℕ, sym, refl}
 use Rattle.messages.specs.declared.message.Kind.{Kind}
 use Rattle.messages.specs.declared.message.Kind.TheVariants.{WbRep, FlushRep}
@@ -10,27 +11,16 @@ use Rattle.protocol.specs.declared.pages.Sends.TheVariants.{Nothing}
 use Rattle.protocol.specs.declared.instruction.Access.{Access}
 use Rattle.protocol.specs.declared.station.StationStep.{StationStep}
 use Rattle.protocol.specs.Rules.{HomePage, HomeStep, page, home_step, Works, Receives, Collects, Serves}
-use Rattle.protocol.specs.Rules.Works.{loads_reading_copy, loads_writing_copy, stores, asks_to_read, asks_to_write, asks_to_upgrade}
-use Rattle.protocol.specs.Rules.Receives.{takes_reading_copy, takes_writing_copy, writes_back, flushes, invalidates, stays_pending}
 use Rattle.protocol.specs.Rules.Collects.{is_written_back, is_flushed, strikes, strikes_last}
 use Rattle.protocol.specs.Rules.Serves.{shares, gives_alone, recalls_readers, recalls_writer_to_read, recalls_writer_to_write}
 use Rattle.protocol.proofs.Recalled.{not_both}
+use Rattle.protocol.proofs.Machines.{work_complete, receive_complete}
 
 pub works_unique : {V : Type 0} {c : Cell V} {a : Access V} {x y : StationStep V} → Works c a x → Works c a y → x ≡ y
-works_unique loads_reading_copy loads_reading_copy = refl
-works_unique loads_writing_copy loads_writing_copy = refl
-works_unique stores stores = refl
-works_unique asks_to_read asks_to_read = refl
-works_unique asks_to_write asks_to_write = refl
-works_unique asks_to_upgrade asks_to_upgrade = refl
+works_unique one other = cc (work_complete one, work_complete other)
 
 pub receives_unique : {V : Type 0} {c : Cell V} {k : Kind V} {x y : StationStep V} → Receives c k x → Receives c k y → x ≡ y
-receives_unique takes_reading_copy takes_reading_copy = refl
-receives_unique takes_writing_copy takes_writing_copy = refl
-receives_unique writes_back writes_back = refl
-receives_unique flushes flushes = refl
-receives_unique invalidates invalidates = refl
-receives_unique stays_pending stays_pending = refl
+receives_unique one other = cc (receive_complete one, receive_complete other)
 
 -- over any page, since a page that names s itself leaves an equation of s with s
 step_of_write_back : {V : Type 0} {s : ℕ} {p : HomePage V} {v : V} {x : HomeStep V} → Collects s p (WbRep v) x → x ≡ home_step (page v (R (including nobody s))) Nothing WrittenBack

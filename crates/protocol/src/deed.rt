@@ -1,16 +1,25 @@
 ghost use Rattle.std.specs.Prelude.{◌≡◌};
-ghost use Rattle.protocol.specs.Deeds.{account_of};
+ghost use Rattle.protocol.specs.Deeds.{account_of, fold_of};
 
 // Whether the home still names a station that asks for the writing copy, because it had a reading copy: that copy is
 // then folded into the request, and is not waited for.
-#[derive(Clone, Copy)]
+#[derive(Clone, Copy, PartialEq, Eq, Debug)]
 pub enum Fold {
     NoCopy,
     OwnCopy,
 }
 
+// The fold of a request, by whether the home names its station.
+impl From<bool> for Fold {
+    ghost from_gives = { λ named fold. fold ≡ fold_of named };
+
+    fn from(named: bool) -> Fold {
+        if named { Fold::OwnCopy } else { Fold::NoCopy }
+    }
+}
+
 // What a granted firing did.
-#[derive(Clone, Copy)]
+#[derive(Clone, Copy, PartialEq, Eq, Debug)]
 pub enum Deed<V> {
     // The station's load is answered with this value.
     Loaded(V),
@@ -39,10 +48,6 @@ impl<V> Deed<V> {
     pub fn leaves(&self) -> bool
         ensures { result ≡ (account_of self.now).leaves }
     {
-        match self {
-            Deed::Asked => false,
-            Deed::Recalling(_) => false,
-            _ => true,
-        }
+        !matches!(self, Deed::Asked | Deed::Recalling(_))
     }
 }

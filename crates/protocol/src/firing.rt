@@ -1,50 +1,57 @@
-ghost use Rattle.std.specs.Prelude.{◌≡◌, MatchOption, ◌≢◌};
-ghost use Rattle.protocol.specs.declared.firing.FiringKind.{FiringKind as Firing};
-ghost use Rattle.protocol.specs.Firings.{firing_number};
+ghost use Rattle.std.specs.Prelude.{◌≡◌, Some, ◌++◌, codes, decimal};
+ghost use Rattle.protocol.specs.Firings.{firing_number, ReadsAsFiring};
 
-// The four kinds of firing, each tried for one station.
+use std::error::Error;
+use std::fmt;
+
+// The four kinds of firing by their numbers, each tried for one station.
 #[derive(Clone, Copy, PartialEq, Eq, Debug)]
 pub enum FiringKind {
     // The station works its oldest instruction.
-    Work,
+    Work = 1,
     // The station receives from its down lane.
-    Receive,
+    Receive = 2,
     // The home reads from the station's reply lane.
-    Collect,
+    Collect = 3,
     // The home takes the station's request.
-    Serve,
+    Serve = 4,
 }
 
-const WORK: u8 = 1;
+// A number that no kind of firing has.
+#[derive(Clone, Copy, PartialEq, Eq, Debug)]
+pub struct UnknownFiring(pub u8);
 
-const RECEIVE: u8 = 2;
+impl From<FiringKind> for u8 {
+    ghost from_gives = { λ kind number. number ≡ firing_number kind };
 
-const COLLECT: u8 = 3;
-
-const SERVE: u8 = 4;
-
-impl FiringKind {
-    pub fn number(&self) -> u8
-        ensures { result ≡ firing_number self.now }
-    {
-        match self {
-            FiringKind::Work => WORK,
-            FiringKind::Receive => RECEIVE,
-            FiringKind::Collect => COLLECT,
-            FiringKind::Serve => SERVE,
-        }
+    fn from(kind: FiringKind) -> u8 {
+        kind as u8
     }
+}
 
-    // The kind that has this number, if one has.
-    pub fn numbered(number: u8) -> Option<FiringKind>
-        ensures { MatchOption result ((kind : Firing) → firing_number kind ≢ number) (λ kind. firing_number kind ≡ number) }
-    {
+impl TryFrom<u8> for FiringKind {
+    type Error = UnknownFiring;
+
+    ghost try_from_gives = { ReadsAsFiring };
+
+    fn try_from(number: u8) -> Result<FiringKind, UnknownFiring> {
         match number {
-            WORK => Some(FiringKind::Work),
-            RECEIVE => Some(FiringKind::Receive),
-            COLLECT => Some(FiringKind::Collect),
-            SERVE => Some(FiringKind::Serve),
-            _ => None,
+            1 => Ok(FiringKind::Work),
+            2 => Ok(FiringKind::Receive),
+            3 => Ok(FiringKind::Collect),
+            4 => Ok(FiringKind::Serve),
+            _ => Err(UnknownFiring(number)),
         }
     }
 }
+
+impl fmt::Display for UnknownFiring {
+    ghost output = { λ unknown. Some (codes "no kind of firing has the number " ++ decimal unknown.0) };
+
+    fn fmt<W: fmt::Write>(&self, f: &mut fmt::Formatter<W>) -> fmt::Result {
+        let number = self.0;
+        write!(f, "no kind of firing has the number {number}")
+    }
+}
+
+impl Error for UnknownFiring {}

@@ -1,9 +1,11 @@
+ghost use Rattle.std.specs.Prelude.{◌≡◌};
+
 use crate::deed::Deed;
 use messages::message::Kind;
 
 // Whom a home page names: readers (R), the one writer (W), readers whose copies are recalled (TR), or the writer whose
 // copy is recalled (TW).
-#[derive(Clone, Copy)]
+#[derive(Clone, Copy, PartialEq, Eq, Debug)]
 pub enum HomeState<D> {
     R(D),
     W(usize),
@@ -11,14 +13,15 @@ pub enum HomeState<D> {
     TW(usize),
 }
 
-#[derive(Clone, Copy)]
+#[derive(Clone, Copy, PartialEq, Eq, Debug)]
 pub struct HomePage<V, D> {
     pub value: V,
     pub state: HomeState<D>,
 }
 
 // What the home sends: nothing, a message to one station, or the same message to each station of a register.
-#[derive(Clone, Copy)]
+// Nothing is a case and no Option around the others, since each rule says in one word what is sent.
+#[derive(Clone, Copy, PartialEq, Eq, Debug)]
 pub enum Sends<V, D> {
     Nothing,
     To(usize, Kind<V>),
@@ -26,9 +29,28 @@ pub enum Sends<V, D> {
 }
 
 // What the home makes of a message: the page afterwards, what is sent, and the deed.
-#[derive(Clone, Copy)]
+#[derive(Clone, Copy, PartialEq, Eq, Debug)]
 pub struct HomeStep<V, D> {
     pub page: HomePage<V, D>,
     pub sends: Sends<V, D>,
     pub deed: Deed<V>,
+}
+
+impl<V, D> HomePage<V, D> {
+    pub(crate) fn new(value: V, state: HomeState<D>) -> HomePage<V, D>
+        ensures { result ≡ record { value = value; state = state } }
+    {
+        HomePage { value, state }
+    }
+
+    // The step that leaves the page so.
+    pub(crate) fn step(self, sends: Sends<V, D>, deed: Deed<V>) -> HomeStep<V, D>
+        ensures { result ≡ record { page = self; sends = sends; deed = deed } }
+    {
+        HomeStep {
+            page: self,
+            sends,
+            deed,
+        }
+    }
 }

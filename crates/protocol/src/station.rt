@@ -1,4 +1,4 @@
-ghost use Rattle.std.specs.Prelude.{◌≡◌, Some, None};
+ghost use Rattle.std.specs.Prelude.{◌≡◌};
 ghost use Rattle.protocol.specs.Machines.{worked, received};
 ghost use Rattle.protocol.specs.Rules.{step as step_of};
 
@@ -8,7 +8,7 @@ use crate::instruction::Access;
 use messages::message::Kind;
 
 // What a station makes of an instruction or a message: the cell afterwards, what is sent to the home, and the deed.
-#[derive(Clone, Copy)]
+#[derive(Clone, Copy, PartialEq, Eq, Debug)]
 pub struct StationStep<V> {
     pub cell: Cell<V>,
     pub sends: Option<Kind<V>>,
@@ -21,12 +21,14 @@ impl<V: Copy> Cell<V> {
         ensures { result ≡ worked self access }
     {
         match (self, access) {
-            (Cell::Sh(value), Access::Load) => Some(silent(self, Deed::Loaded(value))),
-            (Cell::Ex(value), Access::Load) => Some(silent(self, Deed::Loaded(value))),
-            (Cell::Ex(_), Access::Store(value)) => Some(silent(Cell::Ex(value), Deed::Stored)),
-            (Cell::None, Access::Load) => Some(sending(Cell::Pend, Kind::ShReq, Deed::Asked)),
-            (Cell::None, Access::Store(_)) => Some(sending(Cell::Pend, Kind::ExReq, Deed::Asked)),
-            (Cell::Sh(_), Access::Store(_)) => Some(sending(Cell::Pend, Kind::ExReq, Deed::Asked)),
+            (Cell::Sh(value) | Cell::Ex(value), Access::Load) => {
+                Some(self.step(None, Deed::Loaded(value)))
+            }
+            (Cell::Ex(_), Access::Store(value)) => Some(Cell::Ex(value).step(None, Deed::Stored)),
+            (Cell::None, Access::Load) => Some(Cell::Pend.step(Some(Kind::ShReq), Deed::Asked)),
+            (Cell::None | Cell::Sh(_), Access::Store(_)) => {
+                Some(Cell::Pend.step(Some(Kind::ExReq), Deed::Asked))
+            }
             (Cell::Pend, _) => None,
         }
     }
@@ -36,41 +38,30 @@ impl<V: Copy> Cell<V> {
         ensures { result ≡ received self kind }
     {
         match (self, kind) {
-            (Cell::Pend, Kind::ShRep(value)) => Some(silent(Cell::Sh(value), Deed::Received)),
-            (Cell::Pend, Kind::ExRep(value)) => Some(silent(Cell::Ex(value), Deed::Received)),
-            (Cell::Ex(value), Kind::WbReq) => Some(sending(
-                Cell::Sh(value),
-                Kind::WbRep(value),
-                Deed::Yielded,
-            )),
-            (Cell::Ex(value), Kind::FlushReq) => Some(sending(
-                Cell::None,
-                Kind::FlushRep(value),
-                Deed::Yielded,
-            )),
-            (Cell::Sh(_), Kind::InvReq) => Some(sending(Cell::None, Kind::InvRep, Deed::Yielded)),
-            (Cell::Pend, Kind::InvReq) => Some(sending(Cell::Pend, Kind::InvRep, Deed::Yielded)),
+            (Cell::Pend, Kind::ShRep(value)) => Some(Cell::Sh(value).step(None, Deed::Received)),
+            (Cell::Pend, Kind::ExRep(value)) => Some(Cell::Ex(value).step(None, Deed::Received)),
+            (Cell::Ex(value), Kind::WbReq) => {
+                Some(Cell::Sh(value).step(Some(Kind::WbRep(value)), Deed::Yielded))
+            }
+            (Cell::Ex(value), Kind::FlushReq) => {
+                Some(Cell::None.step(Some(Kind::FlushRep(value)), Deed::Yielded))
+            }
+            (Cell::Sh(_), Kind::InvReq) => Some(Cell::None.step(Some(Kind::InvRep), Deed::Yielded)),
+            (Cell::Pend, Kind::InvReq) => {
+                Some(Cell::Pend.step(Some(Kind::InvRep), Deed::Yielded))
+            }
             _ => None,
         }
     }
-}
 
-fn silent<V>(cell: Cell<V>, deed: Deed<V>) -> StationStep<V>
-    ensures { result ≡ step_of cell None deed }
-{
-    StationStep {
-        cell,
-        sends: None,
-        deed,
-    }
-}
-
-fn sending<V>(cell: Cell<V>, kind: Kind<V>, deed: Deed<V>) -> StationStep<V>
-    ensures { result ≡ step_of cell (Some kind) deed }
-{
-    StationStep {
-        cell,
-        sends: Some(kind),
-        deed,
+    // The step that leaves the cell so.
+    fn step(self, sends: Option<Kind<V>>, deed: Deed<V>) -> StationStep<V>
+        ensures { result ≡ step_of self sends deed }
+    {
+        StationStep {
+            cell: self,
+            sends,
+            deed,
+        }
     }
 }

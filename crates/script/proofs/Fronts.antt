@@ -1,17 +1,13 @@
 -- A field at the front of a list, by its header. Assumes nothing.
-use Rattle.std.proofs.Common.{◌≡◌, ℕ, ◌+◌, ◌-◌, ◌<◌, ◌≤◌, List, [], ◌∷◌, ◌++◌, length, get_or, take, drop, refl, ap, ◌∙◌, ⊎_elim, arith, length-drop, length-take-le}
+use Rattle.std.proofs.Common.{◌≡◌, ℕ, ◌+◌, ◌-◌, ◌<◌, ◌≤◌, List, ◌++◌, length, get_or, take, drop, refl, ap, ◌∙◌, ⊎_elim, arith, length-drop, length-take-le}
 use Rattle.std.proofs.lemmas.Slice.{between_to_end}
 use Rattle.std.proofs.lemmas.Bool.{cases_lt}
 use Rattle.messages.specs.Bytes.{field}
 use Rattle.messages.proofs.Fields.{opened, found}
-use Rattle.script.specs.Fields.{Found, announced, Front}
-
-pub empty : (s : List ℕ) → length s ≡ 0 → s ≡ []
-empty [] e = refl
-empty (x ∷ s) e = absurd (omega arith)
+use Rattle.script.specs.Fields.{announced}
 
 -- what is left from a byte on
-pub left_is : (s : List ℕ) (at : ℕ) → take (length s - at) (drop at s) ≡ drop at s
+left_is : (s : List ℕ) (at : ℕ) → take (length s - at) (drop at s) ≡ drop at s
 left_is s at = between_to_end s at (length s) (omega arith)
 
 -- where no field stands, and the header is whole, the body is cut
@@ -25,10 +21,3 @@ body_cut left bytes long none =
     let inside : n ≤ length rest = omega arith in
     absurd (none (get_or left 0 0) (take n rest) (drop n rest) (opened left long ∙ found (get_or left 0 0) n (get_or left 1 0) (get_or left 2 0) rest refl (bytes 2) (take n rest) (drop n rest) (length-take-le n rest inside) refl refl)))
     (cases_lt (length left) (3 + n))
-
--- what was found at the front of a part of the script stands at that byte
-pub found_left : (s : List ℕ) (at : ℕ) (a b : Found) → a ≡ b → Front (take (length s - at) (drop at s)) at b → Front (drop at s) at a
-found_left s at a b e h = rw e (rw (left_is s at) at h)
-
-pub none_left : (s : List ℕ) (at : ℕ) → length s ≤ at → drop at s ≡ []
-none_left s at h = empty _ (simp length-drop (omega arith))

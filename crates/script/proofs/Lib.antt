@@ -1,4 +1,3 @@
 pub mod Fronts
-pub mod Bodies
 pub mod Nexts
 pub mod Readings

@@ -1,15 +1,29 @@
 -- The layer and the number of each fault of a script, and what they mean in words. Assumes nothing.
 use Rattle.std.specs.Prelude.{ℕ, List, codes}
+use Rattle.script.specs.declared.fault.Layer.{Layer}
+use Rattle.script.specs.declared.fault.Layer.TheVariants.{Field, Record}
 use Rattle.script.specs.declared.fault.FaultKind.{FaultKind}
 use Rattle.script.specs.declared.fault.FaultKind.TheVariants.{TooLong, HeaderCut, BodyCut, UnknownTag, WrongLength, Unreadable}
 
-abbrev pub fault_numbers : FaultKind → ℕ × ℕ
-fault_numbers TooLong = (1, 20)
-fault_numbers HeaderCut = (1, 21)
-fault_numbers BodyCut = (1, 22)
-fault_numbers UnknownTag = (2, 23)
-fault_numbers WrongLength = (2, 24)
-fault_numbers Unreadable = (2, 25)
+abbrev pub layer_number : Layer → ℕ
+layer_number Field = 1
+layer_number Record = 2
+
+abbrev pub fault_layer : FaultKind → Layer
+fault_layer TooLong = Field
+fault_layer HeaderCut = Field
+fault_layer BodyCut = Field
+fault_layer UnknownTag = Record
+fault_layer WrongLength = Record
+fault_layer Unreadable = Record
+
+abbrev pub fault_number : FaultKind → ℕ
+fault_number TooLong = 20
+fault_number HeaderCut = 21
+fault_number BodyCut = 22
+fault_number UnknownTag = 23
+fault_number WrongLength = 24
+fault_number Unreadable = 25
 
 abbrev pub fault_words : FaultKind → List ℕ
 fault_words TooLong = codes "the script has more than 65536 bytes"

@@ -1,5 +1,5 @@
 -- The records of a script: their tags, their bodies, and which field holds which record. Assumes nothing.
-use Rattle.std.specs.Prelude.{◌≡◌, ℕ, ◌+◌, ◌-◌, ◌<◌, ◌≤◌, Bool, true, List, [], ◌∷◌, ◌++◌, length, drop, Some, None, Ok, Err, Option, Result, ◌≢◌, slice_index}
+use Rattle.std.specs.Prelude.{◌≡◌, ℕ, ◌+◌, ◌-◌, ◌<◌, ◌≤◌, Bool, true, List, [], ◌∷◌, ◌++◌, length, drop, is_some, Some, None, Ok, Err, Option, Result, ◌≢◌, slice_index}
 use Rattle.std.specs.Option.{option_map}
 use Rattle.protocol.specs.Firings.{firing_number}
 use Rattle.messages.specs.Bytes.{word}
@@ -63,6 +63,17 @@ record_as f (Fire kind station) = Fire kind station
 record_as f Close = Close
 record_as f (Readout page) = Readout page
 
+-- the same, where its value can be held so
+abbrev pub record_where : {P Q : Type 0} → (P → Option Q) → Record P → Option (Record Q)
+record_where f (Prepare stations pages room) = Some (Prepare stations pages room)
+record_where f (Set page value) = option_map (Set page) (f value)
+record_where f Start = Some Start
+record_where f (Load station page) = Some (Load station page)
+record_where f (Store station page value) = option_map (Store station page) (f value)
+record_where f (Fire kind station) = Some (Fire kind station)
+record_where f Close = Some Close
+record_where f (Readout page) = Some (Readout page)
+
 -- what the reader's references refer to
 abbrev pub piece_of : Part → Piece
 piece_of part = record { bytes = part.bytes.now; at = part.at }
@@ -71,9 +82,13 @@ abbrev pub seen : Result (Record Part) Fault → Result (Record Piece) Fault
 seen (Ok r) = Ok (record_as piece_of r)
 seen (Err fault) = Err fault
 
-abbrev pub piece_seen : Result Part Fault → Result Piece Fault
+abbrev pub piece_seen : Result Part FaultKind → Result Piece FaultKind
 piece_seen (Ok part) = Ok (piece_of part)
-piece_seen (Err fault) = Err fault
+piece_seen (Err kind) = Err kind
+
+-- whether bytes read as a value of a kind
+abbrev pub readable : {V : Type 0} → (List ℕ → Option V) → List ℕ → Bool
+readable reads bytes = is_some (reads bytes)
 
 module _ (width : ℕ) (readable : List ℕ → Bool) where
   -- a field with this tag and body, at this place, holds the record; its value is that part of the body, of the right width, and reads
@@ -110,20 +125,13 @@ module _ (width : ℕ) (readable : List ℕ → Bool) where
   ValueFails bytes Unreadable = (length bytes ≡ width) × (readable bytes ≢ true)
 
   -- the same of a value's part alone
-  abbrev pub ValueSays : List ℕ → ℕ → Result Piece Fault → Type 0
+  abbrev pub ValueSays : List ℕ → ℕ → Result Piece FaultKind → Type 0
   ValueSays bytes place (Ok piece) = (length bytes ≡ width) × (readable bytes ≡ true) × (piece ≡ record { bytes = bytes; at = place })
-  ValueSays bytes place (Err fault) = (fault.at ≡ place) × ValueFails bytes fault.kind
+  ValueSays bytes place (Err kind) = ValueFails bytes kind
 
 -- the record with its value in place of the value's bytes, where they read
 abbrev pub decoded : {V : Type 0} → (List ℕ → Option V) → Record Piece → Option (Record V)
-decoded reads (Prepare stations pages room) = Some (Prepare stations pages room)
-decoded reads (Set page value) = option_map (Set page) (reads value.bytes)
-decoded reads Start = Some Start
-decoded reads (Load station page) = Some (Load station page)
-decoded reads (Store station page value) = option_map (Store station page) (reads value.bytes)
-decoded reads (Fire kind station) = Some (Fire kind station)
-decoded reads Close = Some Close
-decoded reads (Readout page) = Some (Readout page)
+decoded reads r = record_where (λ value. reads value.bytes) r
 
 -- what comes next in a script: its end, a record and the byte where its field begins, or a fault
 pub data Outcome : Type 0 where

@@ -1,23 +1,34 @@
-ghost use Rattle.std.specs.Prelude.{◌≡◌, Some};
-ghost use Rattle.script.specs.Faults.{fault_numbers, fault_words};
+ghost use Rattle.std.specs.Prelude.{◌≡◌, Some, ◌++◌, codes, decimal};
+ghost use Rattle.script.specs.declared.fault.FaultKind.TheVariants.{Unreadable};
+ghost use Rattle.script.specs.Faults.{layer_number, fault_layer, fault_number, fault_words};
 
+use protocol::firing::UnknownFiring;
+use std::error::Error;
 use std::fmt;
 
-// What can be wrong with a script: the question that was answered no. Further cases join when a round is there.
+// The layer of a script that finds a fault, by its number.
+#[derive(Clone, Copy, PartialEq, Eq, Debug)]
+pub enum Layer {
+    Field = 1,
+    Record = 2,
+}
+
+// What can be wrong with a script, by the number of the question that was answered no. Further cases join when a round is
+// there.
 #[derive(Clone, Copy, PartialEq, Eq, Debug)]
 pub enum FaultKind {
     // The script has more bytes than are read.
-    TooLong,
+    TooLong = 20,
     // Fewer bytes are left than a header has.
-    HeaderCut,
+    HeaderCut = 21,
     // Fewer bytes are left than the header says.
-    BodyCut,
+    BodyCut = 22,
     // No record has this tag.
-    UnknownTag,
+    UnknownTag = 23,
     // No record of this tag has a body of this length.
-    WrongLength,
+    WrongLength = 24,
     // The value or the kind of firing does not read.
-    Unreadable,
+    Unreadable = 25,
 }
 
 // A fault of a script, and the byte where its field begins.
@@ -27,23 +38,6 @@ pub struct Fault {
     pub at: usize,
 }
 
-const TOO_LONG: u8 = 20;
-
-const HEADER_CUT: u8 = 21;
-
-const BODY_CUT: u8 = 22;
-
-const UNKNOWN_TAG: u8 = 23;
-
-const WRONG_LENGTH: u8 = 24;
-
-const UNREADABLE: u8 = 25;
-
-// The layer of a script that finds the fault.
-const FIELD: u8 = 1;
-
-const RECORD: u8 = 2;
-
 impl FaultKind {
     // The fault of a field that begins at this byte.
     pub fn at(self, at: usize) -> Fault
@@ -52,18 +46,38 @@ impl FaultKind {
         Fault { kind: self, at }
     }
 
-    // The layer and the number of the fault.
-    pub fn numbers(&self) -> (u8, u8)
-        ensures { result ≡ fault_numbers self.now }
+    // The layer that finds faults of this kind.
+    pub fn layer(self) -> Layer
+        ensures { result ≡ fault_layer self }
     {
         match self {
-            FaultKind::TooLong => (FIELD, TOO_LONG),
-            FaultKind::HeaderCut => (FIELD, HEADER_CUT),
-            FaultKind::BodyCut => (FIELD, BODY_CUT),
-            FaultKind::UnknownTag => (RECORD, UNKNOWN_TAG),
-            FaultKind::WrongLength => (RECORD, WRONG_LENGTH),
-            FaultKind::Unreadable => (RECORD, UNREADABLE),
+            FaultKind::TooLong | FaultKind::HeaderCut | FaultKind::BodyCut => Layer::Field,
+            FaultKind::UnknownTag | FaultKind::WrongLength | FaultKind::Unreadable => Layer::Record,
         }
+    }
+}
+
+impl From<Layer> for u8 {
+    ghost from_gives = { λ layer number. number ≡ layer_number layer };
+
+    fn from(layer: Layer) -> u8 {
+        layer as u8
+    }
+}
+
+impl From<FaultKind> for u8 {
+    ghost from_gives = { λ kind number. number ≡ fault_number kind };
+
+    fn from(kind: FaultKind) -> u8 {
+        kind as u8
+    }
+}
+
+impl From<UnknownFiring> for FaultKind {
+    ghost from_gives = { λ _ kind. kind ≡ Unreadable };
+
+    fn from(_: UnknownFiring) -> FaultKind {
+        FaultKind::Unreadable
     }
 }
 
@@ -82,3 +96,13 @@ impl fmt::Display for FaultKind {
         }
     }
 }
+
+impl fmt::Display for Fault {
+    ghost output = { λ fault. Some (codes "byte " ++ (decimal fault.at ++ (codes ": " ++ fault_words fault.kind))) };
+
+    fn fmt<W: fmt::Write>(&self, f: &mut fmt::Formatter<W>) -> fmt::Result {
+        write!(f, "byte {}: {}", self.at, self.kind)
+    }
+}
+
+impl Error for Fault {}

@@ -1,5 +1,5 @@
-ghost use Rattle.std.specs.Prelude.{◌≡◌, ◌+◌, drop};
-ghost use Rattle.script.specs.Fields.{longest, Opens, field_found, Front, after};
+ghost use Rattle.std.specs.Prelude.{◌≡◌, ◌+◌, ◌<◌, length, drop, IfOk, IfErr};
+ghost use Rattle.script.specs.Fields.{longest, Opens, one, broken, field_found, Front, after};
 
 use crate::fault::{Fault, FaultKind};
 use messages::field::split_field;
@@ -12,7 +12,8 @@ pub struct Field<'a> {
     pub at: usize,
 }
 
-// A script that is being read, and the byte where its next field begins.
+// A script that is being read, and the byte where its next field begins. The whole script stays beside the byte, because the
+// contracts name both: a place is told by its byte in the script.
 #[derive(Clone, Copy)]
 pub struct Reader<'a> {
     pub(crate) script: &'a [u8],
@@ -25,25 +26,24 @@ const LONGEST: usize = 65536;
 const HEADER: usize = 3;
 
 // How many bytes of an input to read at the most: one more than a script may have, so that a longer one is
-// told from it.
+// told from it. It is a `u64`, as `take` of a reader wants, and `usize` has no `From` to that.
 pub fn enough_bytes() -> u64
     ensures { result ≡ longest + 1 }
 {
     LONGEST as u64 + 1
 }
 
-// The field at the front of what is left of a script from the byte `at` on, or nothing where nothing is left.
-fn front<'a>(left: &'a [u8], at: usize) -> Result<Option<Field<'a>>, Fault>
-    ensures { Front left.now at (field_found result) }
+// The field at the front of what is left of a script from the byte `at` on.
+fn front<'a>(left: &'a [u8], at: usize) -> Result<Field<'a>, Fault>
+    requires { 0 < length left.now }
+    ensures field { IfOk result (λ field. Front left.entry.now at (one field.tag field.body.now field.at)) }
+    ensures fault { IfErr result (λ fault. Front left.entry.now at (broken fault)) }
 {
-    if left.is_empty() {
-        return Ok(None);
-    }
     if left.len() < HEADER {
         return Err(FaultKind::HeaderCut.at(at));
     }
     match split_field(left) {
-        Some((tag, body, _)) => Ok(Some(Field { tag, body, at })),
+        Some((tag, body, _)) => Ok(Field { tag, body, at }),
         None => Err(FaultKind::BodyCut.at(at)),
     }
 }
@@ -60,6 +60,7 @@ impl<'a> Reader<'a> {
     }
 
     // The next field, or nothing at the end of the script; a fault leaves the reader where it stood.
+    // It is no `Iterator`: one would not end at a fault, and a `?` on each item is no plainer than `while let` with `?`.
     pub fn next_field(&mut self) -> Result<Option<Field<'a>>, Fault>
         ensures found { Front (drop self.old.at self.old.script.now) self.old.at (field_found result) }
         ensures script { self.new.script.now ≡ self.old.script.now }
@@ -69,12 +70,8 @@ impl<'a> Reader<'a> {
         if self.at >= script.len() {
             return Ok(None);
         }
-        match front(&script[self.at..], self.at)? {
-            Some(field) => {
-                self.at += HEADER + field.body.len();
-                Ok(Some(field))
-            }
-            None => Ok(None),
-        }
+        let field = front(&script[self.at..], self.at)?;
+        self.at += HEADER + field.body.len();
+        Ok(Some(field))
     }
 }

@@ -25,13 +25,8 @@ fn answers(rt: &impl Abort, heap: Global, script: &[u8], text: &str) -> Result<(
 
 // A field of this tag with `size` zeros in its body.
 fn zeros(heap: Global, tag: u8, size: u8) -> Result<Vec<u8>, AllocError> {
-    let mut bytes = Vec::new(heap);
-    bytes.push(tag)?;
-    bytes.push(0)?;
-    bytes.push(size)?;
-    for _ in 0..size {
-        bytes.push(0)?;
-    }
+    let mut bytes = vec![in heap; tag, 0, size]?;
+    bytes.resize(3 + usize::from(size), 0)?;
     Ok(bytes)
 }
 
@@ -279,33 +274,16 @@ fn every_length_wrong_by_one(rt: HostRuntime) -> Result<(), Fail> {
     ];
     let wrong = "1 byte 0: fault 2 24: no record of this tag has this length\n";
     for (tag, of_counts, of_answers) in sizes {
-        counts(
-            &rt,
-            heap,
-            zeros(heap, tag, of_counts.saturating_add(1))?.as_slice(),
-            wrong,
-        )?;
-        answers(
-            &rt,
-            heap,
-            zeros(heap, tag, of_answers.saturating_add(1))?.as_slice(),
-            wrong,
-        )?;
-        if of_counts > 0 {
-            counts(
-                &rt,
-                heap,
-                zeros(heap, tag, of_counts - 1)?.as_slice(),
-                wrong,
-            )?;
-        }
-        if of_answers > 0 {
-            answers(
-                &rt,
-                heap,
-                zeros(heap, tag, of_answers - 1)?.as_slice(),
-                wrong,
-            )?;
+        for (kind, size) in [
+            (ScriptKind::Counts, of_counts),
+            (ScriptKind::Answers, of_answers),
+        ] {
+            let long = zeros(heap, tag, size.saturating_add(1))?;
+            lists(&rt, heap, kind, long.as_slice(), wrong)?;
+            if let Some(less) = size.checked_sub(1) {
+                let short = zeros(heap, tag, less)?;
+                lists(&rt, heap, kind, short.as_slice(), wrong)?;
+            }
         }
     }
     Ok(())

@@ -1,5 +1,5 @@
 -- The whole answer of a firing: the questions of memory and station, and then what the firing of that kind answers.
-use Rattle.std.proofs.Common.{◌≡◌, ℕ, ◌*◌, ◌<◌, ◌≤◌, true, false, eqb, length, Ok, Err, Result, sym, refl, ap, ◌∙◌, subst, inl, inr, arith}
+use Rattle.std.proofs.Common.{◌≡◌, ℕ, ◌*◌, ◌<◌, true, false, eqb, length, Ok, Err, Result, sym, ap, ◌∙◌, inr}
 use Rattle.std.proofs.lemmas.Bool.{eqb-true, eq-eqb, and_parts, and_from, true≢false}
 use Rattle.protocol.specs.declared.deed.Deed.{Deed}
 use Rattle.protocol.specs.declared.firing.FiringKind.{FiringKind}
@@ -9,11 +9,14 @@ use Rattle.coherence.specs.declared.call.Call.TheVariants.{Fire}
 use Rattle.coherence.specs.declared.event.Event.TheVariants.{Fired}
 use Rattle.coherence.specs.Histories.{fires}
 use Rattle.coherence.specs.declared.refusal.Refusal.{Refusal}
-use Rattle.coherence.specs.declared.refusal.Refusal.TheVariants.{Memory as NoMemory, Station}
 use Rattle.calls.specs.declared.sizes.RoundSizes.{RoundSizes}
-use Rattle.calls.specs.Memory.{Memory, meaning, plain, cells_of, pages_of, extents_in, tables_fit, links_fit, fitting}
+use Rattle.calls.specs.Memory.{Memory, meaning, plain, extents_in, tables_fit, links_fit, fitting}
 use Rattle.calls.specs.Calls.{CallAnswered}
-use Rattle.calls.specs.Plans.{state_of, Answered, Denied}
+use Rattle.coherence.specs.Questions.{firing_questions, AllYes, FirstNo}
+use Rattle.calls.specs.declared.step.Plan.{Plan}
+use Rattle.calls.specs.declared.step.Plan.TheVariants.{Work, Receive, Collect, Serve}
+use Rattle.calls.specs.Plans.{page_of, deed_of, plan_outcome, Planned}
+use Rattle.calls.proofs.Carrying.{granted}
 
 -- a memory that has exactly the round's sizes
 pub record Fit {V D : Type 0} (z : RoundSizes) (m : Memory V D) : Type 0 where
@@ -55,20 +58,18 @@ module _ {V D : Type 0} (names : D → Stations) (z : RoundSizes) (m m' : Memory
   abbrev pub FireAnswered : Result (ℕ × Deed V) Refusal → Type 0
   FireAnswered = CallAnswered names z m m' (Fire kind s) (λ x. Fired kind s x.0 x.1)
 
-  pub memory_no : m' ≡ m → fitting z m ≡ false → FireAnswered (Err NoMemory)
-  memory_no same e = (same, λ v. inl (fits_not z m e, refl))
+  pub fire_denied : (k : Refusal) → m' ≡ m → fitting z m ≡ true → s < z.stations → ((v : V) → FirstNo (firing_questions (plain z) (meaning names (plain z) v m) kind s) k) → FireAnswered (Err k)
+  fire_denied k same e inside first = (same, λ v. inr (fit_extents z m (fit z m e), inr (inside, first v)))
 
-  pub station_no : m' ≡ m → fitting z m ≡ true → z.stations ≤ s → FireAnswered (Err Station)
-  station_no same e far = (same, λ v. inr (fit_extents z m (fit z m e), inl ((λ h. let n : ⊥ = omega arith in n), refl)))
-
-  pub fire_answers : (r : Result (ℕ × Deed V) Refusal) → Fit z m → s < z.stations → extents_in m' ≡ extents_in m → Denied (m' ≡ m) r →
-      ((v : V) → Answered (plain z) (state_of (pages_of names v m.home) (cells_of z.stations z.pages m.cells) m.links.waiting m.queues.row (extents_in m)) s kind (state_of (pages_of names v m'.home) (cells_of z.stations z.pages m'.cells) m'.links.waiting m'.queues.row (extents_in m)) r) →
-      FireAnswered r
-  fire_answers (Ok x) f inside e denied a =
-      λ v. ((fit_extents z m f, (inside, (a v).0)), fires (subst (λ y. Fires (plain z) (meaning names (plain z) v m) s kind x.0 x.1 (state_of (pages_of names v m'.home) (cells_of z.stations z.pages m'.cells) m'.links.waiting m'.queues.row y)) (sym e) (a v).1))
-  fire_answers (Err k) f inside e denied a = (denied, λ v. inr (fit_extents z m f, inr (inside, a v)))
-
--- what a refusal leaves, said otherwise
-pub denied_so : {X P Q : Type 0} (r : Result X Refusal) → (P → Q) → Denied P r → Denied Q r
-denied_so (Ok x) f d = tt
-denied_so (Err k) f d = f d
+  -- the plan's outcome is what the memory then means
+  pub fire_granted : (plan : Plan V D) → fitting z m ≡ true → s < z.stations →
+      ((v : V) → Planned (plain z) (meaning names (plain z) v m) s kind (plan_outcome names (meaning names (plain z) v m) s) (Ok plan)) →
+      ((v : V) → meaning names (plain z) v m' ≡ (plan_outcome names (meaning names (plain z) v m) s plan).after) →
+      FireAnswered (Ok (page_of plan, deed_of plan))
+  fire_granted plan e inside planned after = λ v. ((fit_extents z m (fit z m e), (inside, (carried v plan (planned v) (after v)).0)), fires (carried v plan (planned v) (after v)).1)
+    where
+      carried : (v : V) (p : Plan V D) → let st = meaning names (plain z) v m in Planned (plain z) st s kind (plan_outcome names st s) (Ok p) → meaning names (plain z) v m' ≡ (plan_outcome names st s p).after → AllYes (firing_questions (plain z) st kind s) × Fires (plain z) st s kind (page_of p) (deed_of p) (meaning names (plain z) v m')
+      carried v (Work p step) f g = granted (plain z) (meaning names (plain z) v m) s kind _ _ f.0 f.1 f.2 g
+      carried v (Receive p step) f g = granted (plain z) (meaning names (plain z) v m) s kind _ _ f.0 f.1 f.2 g
+      carried v (Collect p step) f g = granted (plain z) (meaning names (plain z) v m) s kind _ _ f.0 f.1 f.2 g
+      carried v (Serve p step) f g = granted (plain z) (meaning names (plain z) v m) s kind _ _ f.0 f.1 f.2 g

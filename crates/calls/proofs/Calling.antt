@@ -17,7 +17,9 @@ use Rattle.protocol.specs.Rules.{Stations, page}
 use Rattle.protocol.specs.State.{with_entry, places}
 use Rattle.coherence.specs.declared.call.Call.TheVariants.{Set, Issue, Close, Readout}
 use Rattle.coherence.specs.declared.event.Event.TheVariants.{Set as WasSet, Issued, Closed as WasClosed, ReadOut}
-use Rattle.coherence.specs.declared.refusal.Refusal.TheVariants.{Station, Page, FullQueue, Unfinished}
+use Rattle.std.specs.Result.{MatchResult}
+use Rattle.coherence.specs.declared.refusal.Refusal.{Refusal}
+use Rattle.coherence.specs.declared.refusal.Refusal.TheVariants.{Page, FullQueue, Unfinished}
 use Rattle.coherence.specs.Histories.{opening, with_value, with_instruction, Does, sets, issues, closes, reads_out}
 use Rattle.calls.specs.declared.sizes.RoundSizes.{RoundSizes}
 use Rattle.calls.specs.declared.record.CellRecord.{CellRecord}
@@ -37,9 +39,6 @@ put_denied false r d e f = refl
 
 module _ {V D : Type 0} (names : D → Stations) (z : RoundSizes) (m : Memory V D) (fits : fitting z m ≡ true) where
   module _ (p : ℕ) (w : V) where
-    pub set_off : z.pages ≤ p → CallAnswered {X = Unit {0}} names z m m (Set p w) (λ _. WasSet p w) (Err Page)
-    set_off far = (refl, λ v. inr (fit_extents z m (fit z m fits), inl ((λ h. let n : ⊥ = omega arith in n), refl)))
-
     pub set_done : (home : List (HomePageOver V D)) (old : HomePageOver V D) → p < z.pages → length home ≡ length m.home →
         ((v : V) → pages_of names v m.home p ≡ page_meaning names old) →
         ((v : V) → pages_of names v home ≡ with_entry (pages_of names v m.home) p (page_meaning names (record { value = w; state = old.state }))) →
@@ -66,13 +65,7 @@ module _ {V D : Type 0} (names : D → Stations) (z : RoundSizes) (m : Memory V 
         ((fit_extents z m (fit z m fits), (inside, tt)), subst (Does (plain z) (meaning names (plain z) v m) (WasSet p w)) same sets)
 
   module _ (s : ℕ) (x : Instruction V) where
-    pub issue_no_station : z.stations ≤ s → CallAnswered {X = Unit {0}} names z m m (Issue s x) (λ _. Issued s x) (Err Station)
-    issue_no_station far = (refl, λ v. inr (fit_extents z m (fit z m fits), inl ((λ h. let n : ⊥ = omega arith in n), refl)))
-
     module _ (served : s < z.stations) where
-      pub issue_off : z.pages ≤ x.page → CallAnswered {X = Unit {0}} names z m m (Issue s x) (λ _. Issued s x) (Err Page)
-      issue_off far = (refl, λ v. inr (fit_extents z m (fit z m fits), inr (served, inl ((λ h. let n : ⊥ = omega arith in n), refl))))
-
       -- a put is denied exactly where eight wait
       can_put_lem : length (m.queues.row s) < places → can_put m.queues s ≡ true
       can_put_lem h =
@@ -115,6 +108,11 @@ module _ {V D : Type 0} (names : D → Stations) (z : RoundSizes) (m : Memory V 
             };
           } in
           ((fit_extents z m (fit z m fits), (served, (inside, (has_place can, tt)))), subst (Does (plain z) (meaning names (plain z) v m) (Issued s x)) same issues)
+
+  -- a put and its answer as the call gives it
+  pub issued : (s : ℕ) (x : Instruction V) (served : s < z.stations) (queues : RowsView (Instruction V)) (put : Result (Unit {0}) Refused) (r : Result (Unit {0}) Refusal) → x.page < z.pages → put ≡ granted_if (can_put m.queues s) → queues ≡ after_put m.queues s x → MatchResult put (λ y. r ≡ Ok y) (λ _. r ≡ Err FullQueue) → CallAnswered {X = Unit {0}} names z m (memory m.home m.cells m.links queues) (Issue s x) (λ _. Issued s x) r
+  issued s x served queues (Ok tt) r inside e after is = subst (CallAnswered {X = Unit {0}} names z m (memory m.home m.cells m.links queues) (Issue s x) (λ _. Issued s x)) (sym is) (issue_done s x served queues inside (put_granted _ _ e refl) after)
+  issued s x served queues (Err d) r inside e after is = subst (CallAnswered {X = Unit {0}} names z m (memory m.home m.cells m.links queues) (Issue s x) (λ _. Issued s x)) (sym is) (issue_full s x served queues inside (put_denied _ _ d e refl) after)
 
   -- close
   pub close_unfinished : (((s : ℕ) → m.queues.row s ≡ []) × ((lane : Lane) (s : ℕ) → m.links.waiting lane s ≡ []) → ⊥) → CallAnswered {X = Unit {0}} names z m m Close (λ _. WasClosed) (Err Unfinished)

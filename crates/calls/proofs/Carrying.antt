@@ -1,31 +1,30 @@
 -- What is left of the lanes and queues once an entry has left, and that a step which was planned and then carried out is a
 -- firing of the rules.
-use Rattle.std.proofs.Common.{◌≡◌, ℕ, zero, suc, ◌<◌, Bool, true, false, cond, ◌&&◌, ltb, ◌≢◌, List, length, drop, Some, None, Ok, Option, sym, refl, ap, ◌∙◌, subst, inl, inr}
+use Rattle.std.proofs.Common.{◌≡◌, ℕ, zero, suc, ◌<◌, Bool, true, false, cond, ◌&&◌, ltb, ◌≢◌, List, length, drop, Some, None, Option, sym, refl, ap, ◌∙◌, subst, inl, inr}
 use mathlib.Core.Path.{fun_ext}
-use Rattle.std.proofs.lemmas.Bool.{cond-true, cond-false, cases_Bool}
+use Rattle.std.proofs.lemmas.Bool.{ne_eqb, cond-true, cond-false, cases_Bool}
 use Rattle.messages.specs.declared.message.Kind.{Kind}
 use Rattle.messages.specs.declared.message.Message.{Message}
 use Rattle.registers.specs.Sets.{station_limit}
 use Rattle.queues.specs.View.{RowsView, changed, can_drop, after_drop}
 use Rattle.links.specs.declared.lane.Lane.{Lane}
-use Rattle.links.specs.declared.lane.Lane.TheVariants.{Request, Reply, Down}
+use Rattle.links.specs.declared.lane.Lane.TheVariants.{Down}
 use Rattle.links.specs.View.{LaneView, has_space, same_lane}
-use Rattle.protocol.specs.declared.cell.Cell.{Cell}
 use Rattle.protocol.specs.declared.firing.FiringKind.{FiringKind}
-use Rattle.protocol.specs.declared.firing.FiringKind.TheVariants.{Work, Receive, Collect, Serve}
 use Rattle.protocol.specs.declared.instruction.Instruction.{Instruction}
 use Rattle.protocol.specs.declared.pages.HomeStep.{HomeStep as HomeStepOver}
 use Rattle.protocol.specs.declared.pages.Sends.TheVariants.{Nothing, To, ToAll}
 use Rattle.protocol.specs.declared.sizes.Sizes.{Sizes}
-use Rattle.protocol.specs.declared.station.StationStep.{StationStep}
 use Rattle.protocol.specs.Deeds.{account_of}
-use Rattle.protocol.specs.Machines.{page_meaning, sends_meaning}
-use Rattle.protocol.specs.Rules.{Stations, HomePage, Sends}
-use Rattle.protocol.specs.State.{State, Extents, Outcome, with_entry, with_cell, left_queue, left_lane, posted, from_station, from_home, Fits, Space, Fires, fires}
-use Rattle.coherence.proofs.Tables.{at_and_beside, eqb_same, eqb_other, left_lane_lem, left_same, left_other}
+use Rattle.protocol.specs.Machines.{page_meaning, sends_meaning, step_meaning}
+use Rattle.protocol.specs.Rules.{Stations, Sends}
+use Rattle.protocol.specs.State.{State, Outcome, home_outcome, leaves_lane, with_entry, left_queue, left_lane, posted, from_home, Fits, Space, Fires, fires}
+use Rattle.coherence.proofs.Tables.{at_and_beside, eqb_same, left_lane_lem, left_same, left_other}
 use Rattle.coherence.proofs.Runs.{page_answered}
+use Rattle.protocol.specs.declared.pages.HomePage.{HomePage as HomePageOver}
+use Rattle.calls.specs.Memory.{Memory, memory, meaning, pages_of}
 use Rattle.calls.specs.Lanes.{with_lanes, with_rows, space_to_send, space_below, space_for_all}
-use Rattle.calls.specs.Plans.{state_of, work_outcome, receive_outcome, collect_outcome, serve_outcome, Planned, Answered}
+use Rattle.coherence.specs.Questions.{firing_questions, AllYes}
 use Rattle.calls.proofs.Sending.{nothing_waits}
 
 -- an instruction that leaves
@@ -36,7 +35,7 @@ module _ {V : Type 0} (v : RowsView (Instruction V)) (s : ℕ) where
 
   changed_elsewhere : (l : List (Instruction V)) (t : ℕ) → t ≢ s → changed v.row s l t ≡ v.row t
   unfolding changed
-  changed_elsewhere l t n = simp eqb_other
+  changed_elsewhere l t n = simp ne_eqb
 
   dropped_row : (t : ℕ) → changed v.row s (drop 1 (v.row s)) t ≡ left_queue true s v.row t
   dropped_row = at_and_beside (λ t. changed v.row s (drop 1 (v.row s)) t ≡ left_queue true s v.row t) s (changed_here _ ∙ sym (left_same v.row true s)) (λ t n. changed_elsewhere _ t n ∙ sym (left_other v.row true s t n))
@@ -77,26 +76,29 @@ module _ {V : Type 0} (v : LaneView (Message V)) (leaves : Bool) (from : Lane) (
   all_kept (ToAll set kind) e = below_kept station_limit set e
 
 -- what was planned and carried out
-granted : {V : Type 0} (z : Sizes) (st : State V) (s : ℕ) (kind : FiringKind) (o : Outcome V) (after : State V) → Fits st s kind o → o.page < z.pages → Space z st o → after ≡ o.after → Answered z st s kind after (Ok (o.page, o.deed))
+pub granted : {V : Type 0} (z : Sizes) (st : State V) (s : ℕ) (kind : FiringKind) (o : Outcome V) (after : State V) → Fits st s kind o → o.page < z.pages → Space z st o → after ≡ o.after → AllYes (firing_questions z st kind s) × Fires z st s kind o.page o.deed after
 granted z st s kind o after fits inside space e =
     let p = page_answered fits in
     (((o.page, p), ((o.page, p, inside), ((o, fits), ((o, fits, space), tt)))), subst (Fires z st s kind o.page o.deed) (sym e) (fires fits space))
 
-module _ {V : Type 0} (z : Sizes) (s p : ℕ) (v v' : LaneView (Message V)) (extents : Extents) where
-  module _ (home : ℕ → HomePage V) (cells cells' : ℕ → ℕ → Cell V) (step : StationStep V) (wrote : cells' ≡ with_cell cells s p step.cell) where
-    pub worked_out : (rows rows' : ℕ → List (Instruction V)) → let st = state_of home cells v.waiting rows extents in Planned z st s Work (work_outcome st s) (Ok (p, step)) → v'.waiting ≡ posted v.waiting (from_station Request s p step.sends) → rows' ≡ left_queue (account_of step.deed).leaves s rows → Answered z st s Work (state_of home cells' v'.waiting rows' extents) (Ok (p, step.deed))
-    worked_out rows rows' plan lanes left =
-        granted z (state_of home cells v.waiting rows extents) s Work _ _ plan.0 plan.1 plan.2 (λ i. state_of home (wrote i) (lanes i) (left i) extents)
-
-    pub received_out : (rows : ℕ → List (Instruction V)) → let st = state_of home cells v.waiting rows extents in Planned z st s Receive (receive_outcome st s) (Ok (p, step)) → v'.waiting ≡ posted (left_lane (account_of step.deed).leaves Down s v.waiting) (from_station Reply s p step.sends) → Answered z st s Receive (state_of home cells' v'.waiting rows extents) (Ok (p, step.deed))
-    received_out rows plan lanes =
-        granted z (state_of home cells v.waiting rows extents) s Receive _ _ plan.0 plan.1 plan.2 (λ i. state_of home (wrote i) (lanes i) rows extents)
-
-  module _ {D : Type 0} (names : D → Stations) (home home' : ℕ → HomePage V) (cells : ℕ → ℕ → Cell V) (rows : ℕ → List (Instruction V)) (step : HomeStepOver V D) (wrote : home' ≡ with_entry home p (page_meaning names step.page)) where
-    pub collected_out : let st = state_of home cells v.waiting rows extents in Planned z st s Collect (collect_outcome st s names) (Ok (p, step)) → v'.waiting ≡ posted (left_lane (account_of step.deed).leaves Reply s v.waiting) (from_home p (sends_meaning names step.sends)) → Answered z st s Collect (state_of home' cells v'.waiting rows extents) (Ok (p, step.deed))
-    collected_out plan lanes =
-        granted z (state_of home cells v.waiting rows extents) s Collect _ _ plan.0 plan.1 plan.2 (λ i. state_of (wrote i) cells (lanes i) rows extents)
-
-    pub served_out : let st = state_of home cells v.waiting rows extents in Planned z st s Serve (serve_outcome st s names) (Ok (p, step)) → v'.waiting ≡ posted (left_lane (account_of step.deed).leaves Request s v.waiting) (from_home p (sends_meaning names step.sends)) → Answered z st s Serve (state_of home' cells v'.waiting rows extents) (Ok (p, step.deed))
-    served_out plan lanes =
-        granted z (state_of home cells v.waiting rows extents) s Serve _ _ plan.0 plan.1 plan.2 (λ i. state_of (wrote i) cells (lanes i) rows extents)
+-- what a step of the home leaves in the memory
+pub home_after : {V D : Type 0} (names : D → Stations) (z : Sizes) (v : V) (m : Memory V D) (s : ℕ) (from : Lane) (p : ℕ) (step : HomeStepOver V D) (home : List (HomePageOver V D)) (links : LaneView (Message V)) →
+    pages_of names v home ≡ with_entry (pages_of names v m.home) p (page_meaning names step.page) → length home ≡ length m.home →
+    links ≡ with_lanes m.links (posted (left_lane (account_of step.deed).leaves from s m.links.waiting) (from_home p (sends_meaning names step.sends))) →
+    meaning names z v (memory home m.cells links m.queues) ≡ (home_outcome p (step_meaning names step) (leaves_lane step.deed from s (meaning names z v m))).after
+home_after names z v m s from p step home links wrote len lanes =
+    λ i.
+    record {
+      home = wrote i;
+      cell = (meaning names z v m).cell;
+      lane = (lanes i).waiting;
+      queue = m.queues.row;
+      extents = record {
+        pages = len i;
+        cells = length m.cells;
+        stations = (lanes i).count;
+        room = (lanes i).room;
+        rows = m.queues.rows;
+        places = m.queues.places;
+      };
+    }

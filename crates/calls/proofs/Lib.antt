@@ -4,6 +4,7 @@ pub mod Below
 pub mod Carrying
 pub mod Fills
 pub mod Planning
+pub mod Ranges
 pub mod Sending
 pub mod Waits
 pub mod Writers

@@ -1,8 +1,8 @@
 -- What is found at each question of a firing, as the promise of a plan has it.
-use Rattle.std.proofs.Common.{◌≡◌, ℕ, zero, suc, ◌<◌, ◌≤◌, Bool, true, false, cond, ◌&&◌, eqb, ltb, ◌≢◌, ◌⊎◌, List, [], ◌∷◌, length, Some, None, Ok, Option, sym, refl, ap, ◌∙◌, subst, inl, inr, arith, MatchOption}
+use Rattle.std.proofs.Common.{◌≡◌, ℕ, zero, suc, ◌<◌, ◌≤◌, Bool, true, false, cond, ◌&&◌, eqb, ltb, ◌≢◌, ◌⊎◌, List, [], ◌∷◌, length, Some, None, Ok, Err, Option, sym, refl, ap, ◌∙◌, subst, inl, inr, arith, MatchOption}
 use Rattle.std.specs.Option.{option_map}
 use Rattle.std.specs.List.{slice_get}
-use Rattle.std.proofs.lemmas.Bool.{true≢false, lt-ltb, ltb-true, and_parts, and_from, and_cases, cases_Bool, cases_eq, cases_lt, both_ways}
+use Rattle.std.proofs.lemmas.Bool.{ne_eqb, true≢false, lt-ltb, ltb-true, and_parts, and_from, and_cases, cases_Bool, cases_eq, cases_lt, both_ways}
 use Rattle.messages.specs.declared.message.Kind.{Kind}
 use Rattle.messages.specs.declared.message.Message.{Message}
 use Rattle.registers.specs.Sets.{station_limit}
@@ -26,14 +26,15 @@ use Rattle.protocol.specs.Rules.{Stations, HomePage, HomeStep, Sends, Works, Rec
 use Rattle.protocol.specs.State.{State, Extents, Outcome, message, sent_to, from_station, from_home, station_outcome, home_outcome, leaves_queue, leaves_lane, Fits, works, receives, collects, serves, Space}
 use Rattle.protocol.proofs.Machines.{follow}
 use Rattle.protocol.proofs.Unique.{works_unique, receives_unique, collects_unique, serves_unique}
+use Rattle.coherence.specs.declared.refusal.Refusal.{Refusal}
 use Rattle.coherence.specs.declared.refusal.Refusal.TheVariants.{NothingWaits, Page, NoRule, NoSpace}
 use Rattle.coherence.specs.Questions.{firing_questions, FirstNo, oldest_page}
 use Rattle.protocol.proofs.Recalled.{Low}
-use Rattle.coherence.proofs.Tables.{eqb_same, eqb_other}
+use Rattle.coherence.proofs.Tables.{eqb_same}
 use Rattle.coherence.proofs.Progress.{posted_by_station, posted_by_home}
 use Rattle.calls.specs.Lanes.{space_to_send, space_below, space_for_all}
 use Rattle.calls.proofs.Sending.{same_lane_lem, space_at}
-use Rattle.calls.specs.Plans.{state_of, work_outcome, receive_outcome, collect_outcome, serve_outcome, Planned}
+use Rattle.calls.specs.Plans.{state_of, work_outcome, receive_outcome, collect_outcome, serve_outcome, Planned, Looked}
 
 -- the rules leave no choice, so there is one outcome
 module _ {V : Type 0} (st : State V) (s : ℕ) where
@@ -69,6 +70,11 @@ module _ {V : Type 0} (z : Sizes) (st : State V) (s : ℕ) (kind : FiringKind) w
     pub no_space : p < z.pages → (o : Outcome V) → Fits st s kind o → (Space z st o → ⊥) → FirstNo (firing_questions z st kind s) NoSpace
     no_space inside o fits full =
         inr ((p, e), inr ((p, e, inside), inr ((o, fits), inl ((λ x. full (subst (Space z st) (one_outcome st s x.1 fits) x.2)), refl))))
+
+-- a look at a lane found no message of the round
+pub looked_no : {V : Type 0} (z : Sizes) (st : State V) (s : ℕ) (kind : FiringKind) (oldest : Option (Message V)) (refusal : Refusal) → oldest_page st kind s ≡ option_map (λ m. m.page) oldest → Looked oldest z.pages (Err refusal) → FirstNo (firing_questions z st kind s) refusal
+looked_no z st s kind oldest refusal e (inl x) = subst (FirstNo (firing_questions z st kind s)) (sym x.1) (nothing_waits z st s kind (e ∙ ap (option_map (λ m. m.page)) x.0))
+looked_no z st s kind oldest refusal e (inr x) = subst (FirstNo (firing_questions z st kind s)) (sym x.3) (off_page z st s kind x.0.page (e ∙ ap (option_map (λ m. m.page)) x.1) x.2)
 
 -- space on a station's own lane
 module _ {V : Type 0} (z : Sizes) (v : LaneView (Message V)) (count : v.count ≡ z.stations) (room : v.room ≡ z.room) (out : Lane) (s p : ℕ) where
@@ -116,7 +122,7 @@ module _ {V : Type 0} (z : Sizes) (v : LaneView (Message V)) (count : v.count �
     where
       by : (sends : Sends V) → ((set : Stations) (kind : Kind V) → sends ≡ ToAll set kind → Low set) → space_for_all v sends ≡ true → (lane ≡ Down) × (sent_to sends t ≢ None) → (t < z.stations) × (length (v.waiting lane t) < z.room)
       by Nothing low e here = absurd (here.1 refl)
-      by (To u kind) low e here = elim (cases_eq t u) [ inl same ↦ space_down t (rw same e) lane here.0 | inr other ↦ absurd (here.1 (simp (eqb_other t u other))) ]
+      by (To u kind) low e here = elim (cases_eq t u) [ inl same ↦ space_down t (rw same e) lane here.0 | inr other ↦ absurd (here.1 (simp (ne_eqb t u other))) ]
       by (ToAll set kind) low e here = elim (cases_Bool (set t)) [ inl on ↦ space_down t (space_at v set station_limit t e (elim (cases_lt t station_limit) [ inl h ↦ h | inr h ↦ absurd (both_ways (set t) (low set kind refl t h) on) ]) on) lane here.0 | inr off ↦ absurd (here.1 (simp off)) ]
 
   full_at : (t : ℕ) → has_space v Down t ≡ false → (t < z.stations) × (length (v.waiting Down t) < z.room) → ⊥
@@ -241,7 +247,7 @@ module _ {V : Type 0} (z : Sizes) (v : LaneView (Message V)) (s : ℕ) (home : �
       pub collect_no_rule : m.page < z.pages → None ≡ collected s (page_meaning names h) m.kind → FirstNo (firing_questions z Here Collect s) NoRule
       collect_no_rule inside e = no_rule z Here s Collect m.page collect_page inside (collect_none Here s m _ (proper names high h) looked oldest e)
 
-      pub collect_planned : (step : HomeStepOver V D) → m.page < z.pages → Some (step_meaning names step) ≡ collected s (page_meaning names h) m.kind → Planned z Here s Collect (collect_outcome Here s names) (Ok (m.page, step))
+      pub collect_planned : (step : HomeStepOver V D) → m.page < z.pages → Some (step_meaning names step) ≡ collected s (page_meaning names h) m.kind → Planned z Here s Collect (collect_outcome names Here s) (Ok (m.page, step))
       collect_planned step inside e = (collect_fits Here s m _ (proper names high h) looked oldest (step_meaning names step) e, inside, λ lane t n. absurd ((posted_by_home m.page _ lane t n).1 (ap (λ x. sent_to x t) (collect_silent names high s h m.kind step e))))
 
     module _ (oldest : Some m ≡ slice_get (v.waiting Request s) 0) where
@@ -254,7 +260,7 @@ module _ {V : Type 0} (z : Sizes) (v : LaneView (Message V)) (s : ℕ) (home : �
       pub serve_no_space : v.count ≡ z.stations → v.room ≡ z.room → (step : HomeStepOver V D) → m.page < z.pages → Some (step_meaning names step) ≡ served s (page_meaning names h) m.kind → space_for_all v (sends_meaning names step.sends) ≡ false → FirstNo (firing_questions z Here Serve s) NoSpace
       serve_no_space count room step inside e full = no_space z Here s Serve m.page serve_page inside _ (serve_fits Here s m _ (proper names high h) looked oldest (step_meaning names step) e) (home_full z v count room m.page (sends_meaning names step.sends) full)
 
-      pub serve_planned : v.count ≡ z.stations → v.room ≡ z.room → (step : HomeStepOver V D) → m.page < z.pages → Some (step_meaning names step) ≡ served s (page_meaning names h) m.kind → space_for_all v (sends_meaning names step.sends) ≡ true → Planned z Here s Serve (serve_outcome Here s names) (Ok (m.page, step))
+      pub serve_planned : v.count ≡ z.stations → v.room ≡ z.room → (step : HomeStepOver V D) → m.page < z.pages → Some (step_meaning names step) ≡ served s (page_meaning names h) m.kind → space_for_all v (sends_meaning names step.sends) ≡ true → Planned z Here s Serve (serve_outcome names Here s) (Ok (m.page, step))
       serve_planned count room step inside e space = (serve_fits Here s m _ (proper names high h) looked oldest (step_meaning names step) e, inside, home_space z v count room m.page (sends_meaning names step.sends) (low_sends step.sends) space)
         where
           low_sends : (sends : SendsOver V D) (set : Stations) (kind : Kind V) → sends_meaning names sends ≡ ToAll set kind → Low set

@@ -1,5 +1,5 @@
 -- What a message that leaves or is sent makes of the lanes.
-use Rattle.std.proofs.Common.{◌≡◌, ℕ, zero, suc, ◌+◌, ◌<◌, Bool, true, false, cond, ◌&&◌, eqb, ltb, List, [], ◌∷◌, ◌++◌, length, drop, Some, None, Option, sym, refl, ap, ◌∙◌, inl, inr, append-nil, add-one, arith}
+use Rattle.std.proofs.Common.{◌≡◌, ℕ, zero, suc, ◌+◌, ◌<◌, Bool, true, false, cond, ◌&&◌, eqb, ltb, List, [], ◌∷◌, ◌++◌, length, drop, Some, None, Option, sym, refl, ap, ◌∙◌, inl, inr, append-nil, arith}
 use mathlib.Core.Path.{fun_ext}
 use Rattle.std.proofs.lemmas.Bool.{cond-true, cond-false, cases_Bool, cases_eq, cases_lt, and_parts, and_from, and_left, and_right, both_ways, lt-ltb, le-ltb, ltb-false, eqb-true, eq-eqb}
 use Rattle.messages.specs.declared.message.Kind.{Kind}
@@ -13,6 +13,7 @@ use Rattle.protocol.specs.Rules.{Stations, Sends}
 use Rattle.protocol.specs.State.{Posts, message, listed, from_station, from_home, posted, left_lane}
 use Rattle.coherence.proofs.Tables.{eqb_same, one_lane, left_here}
 use Rattle.calls.specs.Lanes.{with_lanes, space_to_send, space_below, space_for_all}
+use Rattle.calls.proofs.Ranges.{AllBelow}
 
 pub same_lane_lem : (l : Lane) → same_lane l l ≡ true
 same_lane_lem Request = refl
@@ -129,27 +130,24 @@ module _ {V : Type 0} (v : LaneView (Message V)) where
 
 -- each station of a set with a number below n has space, or one has not
 module _ {V : Type 0} (v : LaneView (Message V)) (set : Stations) where
-  pub space_none : space_below v 0 set ≡ true
-  unfolding space_below
-  space_none = refl
-
-  space_more : (n : ℕ) → space_below v n set ≡ true → cond (set n) (has_space v Down n) true ≡ true → space_below v (n + 1) set ≡ true
-  unfolding space_below
-  space_more n a b = rw (add-one n) (and_from _ _ a b)
-
-  pub space_with : (n : ℕ) → space_below v n set ≡ true → set n ≡ true → has_space v Down n ≡ true → space_below v (n + 1) set ≡ true
-  space_with n a e b = space_more n a (cond-true _ _ _ e ∙ b)
-
-  pub space_past : (n : ℕ) → space_below v n set ≡ true → set n ≡ false → space_below v (n + 1) set ≡ true
-  space_past n a e = space_more n a (cond-false _ _ _ e)
-
-  pub space_lacks : (n k : ℕ) → k < n → set k ≡ true → has_space v Down k ≡ false → space_below v n set ≡ false
+  space_lacks : (n k : ℕ) → k < n → set k ≡ true → has_space v Down k ≡ false → space_below v n set ≡ false
   unfolding space_below
   space_lacks zero k h e b = absurd (omega arith)
   space_lacks (suc n) k h e b = elim (cases_lt k n) [
     | inl a ↦ and_left _ _ (space_lacks n k a e b)
     | inr a ↦ let q : k ≡ n = omega arith in and_right _ _ (ap (λ j. cond (set j) (has_space v Down j) true) (sym q) ∙ cond-true _ _ _ e ∙ b)
   ]
+
+  space_if_all : (n : ℕ) → ((k : ℕ) → k < n → set k ≡ true → has_space v Down k ≡ true) → space_below v n set ≡ true
+  unfolding space_below
+  space_if_all zero all = refl
+  space_if_all (suc n) all =
+      and_from _ _ (space_if_all n (λ k h. all k (omega arith)))
+      (elim (cases_Bool (set n)) [ inl e ↦ cond-true _ _ _ e ∙ all n (omega arith) e | inr e ↦ cond-false _ _ _ e ])
+
+  pub space_decided : (n : ℕ) (r : Bool) → AllBelow n r (λ k. set k ≡ true → has_space v Down k ≡ true) (λ k. (set k ≡ true) × (has_space v Down k ≡ false)) → r ≡ space_below v n set
+  space_decided n true all = sym (space_if_all n all)
+  space_decided n false x = sym (space_lacks n x.0 x.1 x.2.0 x.2.1)
 
   pub space_at : (n k : ℕ) → space_below v n set ≡ true → k < n → set k ≡ true → has_space v Down k ≡ true
   space_at n k a h e = elim (cases_Bool (has_space v Down k)) [

@@ -2,7 +2,7 @@
 use Rattle.std.proofs.Common.{◌≡◌, ℕ, ◌+◌, ◌*◌, ◌/◌, ◌%◌, ◌<◌, ◌≤◌, ltb, ◌≢◌, List, map, length, get_or, set, sym, ap, ◌∙◌, inl, inr, arith}
 use mathlib.Core.Path.{fun_ext}
 use Rattle.std.proofs.lemmas.Nat.{mul-add-lt, div-mul-add, mod-mul-add}
-use Rattle.std.proofs.lemmas.List.{get_or-set_same, get_or-set_other, map-set, get_or-map, get_or_read, length-map}
+use Rattle.std.proofs.lemmas.List.{get_or-set_same, get_or-set_other, map-set, get_or-map, length-map}
 use Rattle.std.proofs.lemmas.Bool.{lt-ltb, le-ltb, cases_lt, and_right}
 use Rattle.protocol.specs.declared.cell.Cell.TheVariants.{None as none}
 use Rattle.protocol.specs.declared.pages.HomeState.TheVariants.{R}
@@ -25,13 +25,10 @@ module _ {V : Type 0} (n pages : ℕ) where
   unfolding cells_of
   cell_inside cells s p x z = simp (lt-ltb s n x, lt-ltb p pages z)
 
-  -- a record read field by field
-  pub cell_read : (cells : List (CellRecord V)) (s p i : ℕ) (a b : CellRecord V) → s < n → p < pages → length cells ≡ n * pages → i ≡ s * pages + p → a ≡ get_or cells i a → b ≡ get_or cells i b → cell_of (record { state = (get_or cells i a).state; value = (get_or cells i b).value }) ≡ cells_of n pages cells s p
-  cell_read cells s p i a b x z len e f g =
-      let inside : i < length cells = omega (arith, mul-add-lt s pages p n x z) in
-      let same : get_or cells i b ≡ get_or cells i a = sym g ∙ get_or_read cells i b inside g a in
-      ap (λ r. cell_of (record { state = (get_or cells i a).state; value = r.value })) same
-      ∙ sym (get_or-map cell_of cells i a none inside)
+  -- a record that was read
+  pub cell_found : (cells : List (CellRecord V)) (s p i : ℕ) (r : CellRecord V) → s < n → p < pages → length cells ≡ n * pages → i ≡ s * pages + p → i < n * pages → cell_of (get_or cells i r) ≡ cells_of n pages cells s p
+  cell_found cells s p i r x z len e h =
+      sym (get_or-map cell_of cells i r none (omega arith))
       ∙ ap (λ j. get_or (map cell_of cells) j none) e
       ∙ sym (cell_inside cells s p x z)
 
@@ -42,6 +39,12 @@ module _ {V : Type 0} (n pages : ℕ) where
   cell_off : (cells : List (CellRecord V)) (s p : ℕ) → pages ≤ p → cells_of n pages cells s p ≡ none
   unfolding cells_of
   cell_off cells s p x = simp (and_right (ltb s n) (ltb p pages) (le-ltb p pages x))
+
+  pub cell_missing : (cells : List (CellRecord V)) (s p : ℕ) → ((s < n) × (p < pages) → ⊥) → none ≡ cells_of n pages cells s p
+  cell_missing cells s p none-there = elim (cases_lt s n) [
+    | inr h ↦ sym (cell_far cells s p h)
+    | inl h ↦ elim (cases_lt p pages) [ inr k ↦ sym (cell_off cells s p k) | inl k ↦ absurd (none-there (h, k)) ]
+  ]
 
   written_at : (cells : List (CellRecord V)) (s p : ℕ) (r : CellRecord V) → length cells ≡ n * pages → s < n → p < pages → (t q : ℕ) → cells_of n pages (set cells (s * pages + p) r) t q ≡ with_cell (cells_of n pages cells) s p (cell_of r) t q
   written_at cells s p r len x z t q =

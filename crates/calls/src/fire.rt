@@ -1,12 +1,12 @@
-ghost use Rattle.std.specs.Prelude.{◌≡◌, ℕ, ◌+◌, ◌-◌, ◌*◌, ◌<◌, ◌≤◌, length};
 ghost use Rattle.queues.specs.Places.{view_of};
 ghost use Rattle.calls.specs.Memory.{memory};
 ghost use Rattle.coherence.specs.declared.call.Call.TheVariants.{Fire};
 ghost use Rattle.coherence.specs.declared.event.Event.TheVariants.{Fired};
 ghost use Rattle.calls.specs.Calls.{CallAnswered};
 
-use crate::firings::{collect, receive, serve, work};
+use crate::carry::carry_out;
 use crate::fits::fits;
+use crate::lent::Lent;
 use crate::record::CellRecord;
 use crate::sizes::RoundSizes;
 use coherence::refusal::Refusal;
@@ -37,10 +37,13 @@ pub(crate) fn fire<V: Copy, D: Register, L: Links<Message<V>>>(
     if station >= sizes.stations {
         return Err(Refusal::Station);
     }
-    match kind {
-        FiringKind::Work => work(sizes, cells, links, queues, station),
-        FiringKind::Receive => receive(sizes, cells, links, station),
-        FiringKind::Collect => collect(sizes, home, links, station),
-        FiringKind::Serve => serve(sizes, home, links, station),
-    }
+    let lent = Lent {
+        sizes,
+        home,
+        cells,
+        links,
+        queues,
+    };
+    let plan = lent.plan(kind, station)?;
+    Ok(carry_out(sizes, station, plan, home, cells, links, queues))
 }

@@ -37,7 +37,9 @@ fn queues_fit<V: Copy>(sizes: RoundSizes, queues: &Queues<'_, Instruction<V>>) -
     queues.rows() == sizes.stations && queues.places() == PLACES
 }
 
-// Whether tables, links and queues have exactly the round's sizes.
+// Whether tables, links and queues have exactly the round's sizes; each call makes its own refusal of a no, in its order of
+// questions. They are handed over one by one, here and by each call: a struct that holds all four as `&mut` was tried, and
+// a caller that makes one of what it was lent itself is not proved. One of `&` would serve only the calls that write nothing.
 pub(crate) fn fits<V: Copy, D: Register, L: Links<Message<V>>>(
     sizes: RoundSizes,
     home: &[HomePage<V, D>],
@@ -47,11 +49,5 @@ pub(crate) fn fits<V: Copy, D: Register, L: Links<Message<V>>>(
 ) -> bool
     ensures { result ≡ fitting sizes (memory home.now cells.now (L.view links.now) (view_of queues.now)) }
 {
-    if !tables_fit(sizes, home, cells) {
-        return false;
-    }
-    if !links_fit(sizes, links) {
-        return false;
-    }
-    queues_fit(sizes, queues)
+    tables_fit(sizes, home, cells) && links_fit(sizes, links) && queues_fit(sizes, queues)
 }

@@ -37,8 +37,7 @@ pub(crate) fn issue<V: Copy, D: Register, L: Links<Message<V>>>(
     if instruction.page >= sizes.pages {
         return Err(Refusal::Page);
     }
-    match queues.put(station, instruction) {
-        Ok(()) => Ok(()),
-        Err(_) => Err(Refusal::FullQueue),
-    }
+    queues
+        .put(station, instruction)
+        .map_err(|_| Refusal::FullQueue)
 }

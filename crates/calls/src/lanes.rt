@@ -37,14 +37,7 @@ pub(crate) fn space_to_send<V: Copy, L: Links<Message<V>>>(
 fn all_space<V: Copy, L: Links<Message<V>>, D: Register>(links: &L, set: D) -> bool
     ensures { result ≡ space_below (L.view links.now) station_limit (D.names set) }
 {
-    for station in 0..STATIONS {
-        if set.names(station) {
-            if !has_space(links, Lane::Down, station) {
-                return false;
-            }
-        }
-    }
-    true
+    (0..STATIONS).all(|station| !set.names(station) || has_space(links, Lane::Down, station))
 }
 
 // Whether there is space for all that the home sends.
@@ -101,6 +94,7 @@ fn send_to_all<V: Copy, L: Links<Message<V>>, D: Register>(
     requires { space_below (L.view links.old) station_limit (D.names set) ≡ true }
     ensures { L.view links.new ≡ with_lanes (L.view links.old) (posted (L.view links.old).waiting (from_home page (ToAll (D.names set) kind))) }
 {
+    // The stations are numbers, so the loop has no index; and it sends, so it is no chain.
     for station in 0..STATIONS {
         if set.names(station) {
             let _ = links.send(Lane::Down, station, Message { page, kind });

@@ -28,7 +28,7 @@ pub(crate) fn prepare<V: Copy, D: Register, L: Links<Message<V>>>(
 ) -> Result<RoundSizes, Refusal>
     ensures { PrepareAnswered D.names sizes value (memory home.old cells.old (L.view links.now) (view_of queues.now)) (memory home.new cells.new (L.view links.now) (view_of queues.now)) result }
 {
-    let round = RoundSizes::new(sizes)?;
+    let round = RoundSizes::try_from(sizes)?;
     if !fits(round, home, cells, links, queues) {
         return Err(Refusal::Memory);
     }
@@ -36,6 +36,6 @@ pub(crate) fn prepare<V: Copy, D: Register, L: Links<Message<V>>>(
         return Err(Refusal::Memory);
     }
     fill_home(home, value);
-    fill_cells(cells);
+    fill_cells(cells, value);
     Ok(round)
 }

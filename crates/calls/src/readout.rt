@@ -6,10 +6,9 @@ ghost use Rattle.calls.specs.Memory.{memory};
 ghost use Rattle.calls.specs.Calls.{CallAnswered};
 
 use crate::fits::fits;
-use crate::lowest::lowest_writer;
+use crate::lent::Lent;
 use crate::record::CellRecord;
 use crate::sizes::RoundSizes;
-use crate::tables::read_page;
 use coherence::refusal::Refusal;
 use links::lane::Links;
 use messages::message::Message;
@@ -35,8 +34,15 @@ pub(crate) fn readout<V: Copy, D: Register, L: Links<Message<V>>>(
     if page >= sizes.pages {
         return Err(Refusal::Page);
     }
-    match lowest_writer(sizes, cells, page) {
+    let lent = Lent {
+        sizes,
+        home,
+        cells,
+        links,
+        queues,
+    };
+    match lent.lowest_writer(page) {
         Some(value) => Ok(value),
-        None => Ok(read_page(home, page).value),
+        None => Ok(lent.page(page).value),
     }
 }

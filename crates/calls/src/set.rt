@@ -8,7 +8,6 @@ ghost use Rattle.calls.specs.Calls.{CallAnswered};
 use crate::fits::fits;
 use crate::record::CellRecord;
 use crate::sizes::RoundSizes;
-use crate::tables::{read_page, write_page};
 use coherence::refusal::Refusal;
 use links::lane::Links;
 use messages::message::Message;
@@ -35,7 +34,6 @@ pub(crate) fn set<V: Copy, D: Register, L: Links<Message<V>>>(
     if page >= sizes.pages {
         return Err(Refusal::Page);
     }
-    let state = read_page(home, page).state;
-    write_page(home, page, HomePage { value, state });
+    home[page].value = value;
     Ok(())
 }

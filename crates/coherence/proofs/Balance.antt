@@ -1,7 +1,7 @@
 -- At each page, what a firing adds to the grants is what it adds to the stations named, the returns and the folded copies.
 use Rattle.std.proofs.Common.{◌≡◌, ℕ, ◌+◌, ◌<◌, true, false, eqb, ◌≢◌, sym, refl, ap, ◌∙◌, inl, inr, arith}
 use mathlib.Core.Path.{fun_ext}
-use Rattle.std.proofs.lemmas.Bool.{cases_Bool}
+use Rattle.std.proofs.lemmas.Bool.{cases_Bool, ne_eqb}
 use Rattle.messages.specs.declared.message.Kind.{Kind}
 use Rattle.registers.specs.Sets.{station_limit, nobody, including, without, how_many}
 use Rattle.registers.proofs.Counting.{nobody_is_none, one_added}
@@ -10,10 +10,10 @@ use Rattle.protocol.specs.declared.firing.FiringKind.{FiringKind}
 use Rattle.protocol.specs.declared.instruction.Access.{Access}
 use Rattle.protocol.specs.declared.station.StationStep.{StationStep}
 use Rattle.protocol.specs.Deeds.{Account, account_of, fold_number, fold_of}
-use Rattle.protocol.specs.Rules.{Stations, Empty, HomePage, HomeStep, Works, loads_reading_copy, loads_writing_copy, stores, asks_to_read, asks_to_write, asks_to_upgrade, Receives, takes_reading_copy, takes_writing_copy, writes_back, flushes, invalidates, stays_pending, Collects, is_written_back, is_flushed, strikes, strikes_last, Serves, shares, gives_alone, recalls_readers, recalls_writer_to_read, recalls_writer_to_write}
+use Rattle.protocol.specs.Rules.{Stations, Empty, HomePage, HomeStep, Works, Receives, Collects, is_written_back, is_flushed, strikes, strikes_last, Serves, shares, gives_alone, recalls_readers, recalls_writer_to_read, recalls_writer_to_write}
 use Rattle.protocol.specs.State.{State, Outcome, Fits, works, receives, collects, serves}
 use Rattle.coherence.specs.Promise.{named}
-use Rattle.coherence.proofs.Tables.{at_and_beside, eqb_same, eqb_other, included, included_other, struck, struck_other, entry_same, entry_other}
+use Rattle.coherence.proofs.Tables.{at_and_beside, eqb_same, included, included_other, struck, struck_other, entry_same, entry_other}
 
 -- how many are in a set with one station more, one less, or with that one alone
 module _ (s : ℕ) (low : s < station_limit) where
@@ -24,7 +24,7 @@ module _ (s : ℕ) (low : s < station_limit) where
   count_struck D e = one_added (without D s) D s low (struck D s) e (λ k n. sym (struck_other D s k n))
 
   count_alone : how_many (λ k. eqb k s) ≡ 1
-  count_alone = one_added nobody (λ k. eqb k s) s low refl (eqb_same s) (λ k n. eqb_other k s n) ∙ ap (λ k. k + 1) nobody_is_none
+  count_alone = one_added nobody (λ k. eqb k s) s low refl (eqb_same s) (λ k n. ne_eqb k s n) ∙ ap (λ k. k + 1) nobody_is_none
 
   -- the fold is 1 exactly where the station was in the set
   count_folded : (D : Stations) → how_many D ≡ how_many (without D s) + fold_number (fold_of (D s))
@@ -43,20 +43,10 @@ abbrev Aside : Account → Type 0
 Aside a = (a.grants ≡ 0) × (a.returns ≡ 0) × (a.folds ≡ 0)
 
 works_aside : {V : Type 0} {c : Cell V} {x : Access V} {step : StationStep V} → Works c x step → Aside (account_of step.deed)
-works_aside loads_reading_copy = (refl, refl, refl)
-works_aside loads_writing_copy = (refl, refl, refl)
-works_aside stores = (refl, refl, refl)
-works_aside asks_to_read = (refl, refl, refl)
-works_aside asks_to_write = (refl, refl, refl)
-works_aside asks_to_upgrade = (refl, refl, refl)
+works_aside rule = (grind arith, grind arith, grind arith)
 
 receives_aside : {V : Type 0} {c : Cell V} {k : Kind V} {step : StationStep V} → Receives c k step → Aside (account_of step.deed)
-receives_aside takes_reading_copy = (refl, refl, refl)
-receives_aside takes_writing_copy = (refl, refl, refl)
-receives_aside writes_back = (refl, refl, refl)
-receives_aside flushes = (refl, refl, refl)
-receives_aside invalidates = (refl, refl, refl)
-receives_aside stays_pending = (refl, refl, refl)
+receives_aside rule = (grind arith, grind arith, grind arith)
 
 -- before and after, with what the deed adds
 abbrev Balances : ℕ → ℕ → Account → Type 0

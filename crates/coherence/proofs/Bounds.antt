@@ -28,12 +28,12 @@ pub record Within {V : Type 0} (sizes : Sizes) (st : State V) : Type 0 where
 -- a list that is not other than empty is empty
 empty_list : {X : Type 0} (l : List X) → (l ≢ [] → ⊥) → l ≡ []
 empty_list [] n = refl
-empty_list (x ∷ l) n = absurd (n (λ e. let z : ◌≡◌ {A = ℕ} 0 1 = cc in let w : ⊥ = omega arith in w))
+empty_list (x ∷ l) n = absurd (n (λ e. cc))
 
 module _ {V : Type 0} {sizes : Sizes} {st : State V} (w : Within sizes st) where
   -- where there is space for all that is posted, nothing is posted past the last station
   far_posts : (posts : Posts V) → ((lane : Lane) (t : ℕ) → posts lane t ≢ [] → (t < sizes.stations) × (length (st.lane lane t) < sizes.room)) → (lane : Lane) (t : ℕ) → sizes.stations ≤ t → posts lane t ≡ []
-  far_posts posts space lane t h = empty_list (posts lane t) (λ n. let in' : t < sizes.stations = (space lane t n).0 in let z : ⊥ = omega arith in z)
+  far_posts posts space lane t h = empty_list (posts lane t) (λ n. let in' : t < sizes.stations = (space lane t n).0 in omega arith)
 
   far_left : (leaves : Bool) (from : Lane) (s : ℕ) (lane : Lane) (t : ℕ) → sizes.stations ≤ t → left_lane leaves from s st.lane lane t ≡ []
   unfolding left_lane

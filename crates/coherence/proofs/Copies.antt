@@ -1,18 +1,17 @@
 -- What the invariant says of a state: every copy is the latest, a writer is alone, and whom the home names.
-use Rattle.std.proofs.Common.{◌≡◌, ℕ, Bool, true, false, cond, eqb, ◌≢◌, ◌⊎◌, List, [], ◌∷◌, refl, ap, inl, inr}
-use Rattle.std.proofs.lemmas.Bool.{cases_eq, cases_Bool, eq-eqb, eqb-true, false≢true}
+use Rattle.std.proofs.Common.{◌≡◌, ℕ, Bool, true, false, cond, eqb, ◌≢◌, ◌⊎◌, List, [], ◌∷◌, refl, inl, inr, arith}
+use Rattle.std.proofs.lemmas.Bool.{cases_eq, cases_Bool, eq-eqb, eqb-true}
 use Rattle.messages.specs.declared.message.Kind.{Kind}
 use Rattle.messages.specs.declared.message.Message.{Message}
 use Rattle.links.specs.declared.lane.Lane.TheVariants.{Request, Reply, Down}
 use Rattle.protocol.specs.declared.cell.Cell.{Cell}
 use Rattle.protocol.specs.declared.cell.Cell.TheVariants.{Ex}
 use Rattle.protocol.specs.declared.pages.HomeState.{HomeState}
-use Rattle.protocol.specs.declared.pages.HomeState.TheVariants.{R, W, TR, TW}
 use Rattle.protocol.specs.Rules.{Stations}
 use Rattle.protocol.specs.State.{State}
 use Rattle.coherence.specs.Promise.{Copy, reading, writing, Carries, Grant, grants_reading, grants_writing, Return, returns_writing, returns_reading, WriteRequest, asks_to_write, Holder, has_copy, is_granted, has_returned, named}
 use Rattle.coherence.proofs.Tables.{on}
-use Rattle.coherence.proofs.Standing.{Seen, out, in_r, in_w, in_tr, in_tw, seen, Standing, absent, asks, reads, read_granted, upgrades, granted_recalled, reader_recalled, upgrade_recalled, invalidated, invalidated_asks, write_granted, writes, grant_recalled, writer_recalled, written_back, written_back_asks, flushed, flushed_asks, Invariant}
+use Rattle.coherence.proofs.Standing.{Seen, out, seen, Standing, absent, asks, reads, read_granted, upgrades, granted_recalled, reader_recalled, upgrade_recalled, invalidated, invalidated_asks, write_granted, writes, grant_recalled, writer_recalled, written_back, written_back_asks, flushed, flushed_asks, Invariant}
 use Rattle.coherence.proofs.Steps.{may_write, alone}
 
 -- a kind that is meant stands in the list
@@ -46,24 +45,17 @@ Holding {V} c q d r = ((v : V) × Copy c v) ⊎ (Among Grant d ⊎ (Among Return
 
 module _ {V : Type 0} {L : V} where
   copy_latest : {v : V} {a : Seen} {c : Cell V} {q d r : List (Kind V)} → Copy c v → Standing L a c q d r → v ≡ L
-  copy_latest reading (reads e) = e
-  copy_latest reading (reader_recalled e) = e
-  copy_latest reading (written_back e f) = e
-  copy_latest writing (writes e) = e
-  copy_latest writing (writer_recalled k e) = e
+  copy_latest copy stands = grind arith
 
   -- a station that is not named has no copy, and no message of the page waits for it or from it but its request
   out_copy : {v : V} {c : Cell V} {q d r : List (Kind V)} → Standing L out c q d r → Copy c v → ⊥
-  out_copy absent x = elim x [ ]
-  out_copy (asks k) x = elim x [ ]
+  out_copy stands copy = grind arith
 
   out_down : {c : Cell V} {q d r : List (Kind V)} → Standing L out c q d r → d ≡ []
-  out_down absent = refl
-  out_down (asks k) = refl
+  out_down stands = grind arith
 
   out_reply : {c : Cell V} {q d r : List (Kind V)} → Standing L out c q d r → r ≡ []
-  out_reply absent = refl
-  out_reply (asks k) = refl
+  out_reply stands = grind arith
 
   holding : {a : Seen} {c : Cell V} {q d r : List (Kind V)} → Standing L a c q d r → a ≢ out → Holding c q d r
   holding absent n = absurd (n refl)
@@ -87,23 +79,10 @@ module _ {V : Type 0} {L : V} where
 
 -- whom the home names, it sees
 pub not_named : (x : HomeState Stations) (s : ℕ) → named x s ≡ false → seen x s ≡ out
-not_named (R D) s e = rw e
-not_named (W t) s e = rw e
-not_named (TR D) s e = rw e
-not_named (TW t) s e = rw e
-
-abbrev is_out : Seen → Bool
-is_out out = true
-is_out in_r = false
-is_out in_w = false
-is_out in_tr = false
-is_out in_tw = false
+not_named x s e = grind arith
 
 pub is_named : (x : HomeState Stations) (s : ℕ) → named x s ≡ true → seen x s ≢ out
-is_named (R D) s e f = false≢true (ap is_out (rw e at f))
-is_named (W t) s e f = false≢true (ap is_out (rw e at f))
-is_named (TR D) s e f = false≢true (ap is_out (rw e at f))
-is_named (TW t) s e f = false≢true (ap is_out (rw e at f))
+is_named x s y e = grind arith
 
 module _ {V : Type 0} (L : ℕ → V) (st : State V) (i : Invariant L st) where
   pub copies_latest : (p s : ℕ) (v : V) → Copy (st.cell s p) v → v ≡ L p

@@ -1,5 +1,6 @@
 -- The answers of every history are a sequential order.
 use Rattle.std.proofs.Common.{◌≡◌, ℕ, Bool, true, false, cond, eqb, List, [], ◌∷◌, ◌++◌, Some, Option, sym, refl, ap, ◌∙◌, append_assoc}
+use Rattle.std.proofs.lemmas.Bool.{ne_eqb}
 use Rattle.std.specs.List.{slice_get}
 use Rattle.protocol.specs.declared.deed.Deed.{Deed}
 use Rattle.protocol.specs.declared.firing.FiringKind.{FiringKind}
@@ -15,7 +16,7 @@ use Rattle.coherence.specs.declared.phase.Phase.TheVariants.{Preparation}
 use Rattle.coherence.specs.Histories.{sets as set-goes, starts as start-goes, issues as issue-goes, fires as fire-goes, closes as close-goes, reads_out as readout-goes, sets, starts, issues, fires, closes, reads_out, Leads, prepared, granted, denied}
 use Rattle.coherence.specs.Promise.{nothing, brings, issues_of, answers_of, opening_values, next_to_answer, stored_by, latest, Tells, loads as tells-load, loaded, stored}
 use Rattle.coherence.specs.Sequential.{Operation, loading, storing, memory_after, OneAtATime, performed_by, Performs, loads, stores, passes, HistoriesAreSequential}
-use Rattle.coherence.proofs.Tables.{at_and_beside, eqb_same, eqb_other, entry_same, entry_other, oldest_first, left_same, left_other}
+use Rattle.coherence.proofs.Tables.{at_and_beside, eqb_same, entry_same, entry_other, oldest_first, left_same, left_other}
 use Rattle.coherence.proofs.Orders.{next_waits, Working, answers_it, asks_for_it, working, receives_answers, collects_answers, serves_answers, unstored}
 use Rattle.coherence.proofs.Runs.{still, good}
 
@@ -37,7 +38,7 @@ module _ {V : Type 0} {opened now : ℕ → V} {program waiting : ℕ → List (
         memory = g.memory;
         in_program_order = at_and_beside (λ t. performed_by t g.operations ++ with_entry waiting s (waiting s ++ i ∷ []) t ≡ cond (eqb t s) (program t ++ i ∷ []) (program t)) s
             (simp (eqb_same, entry_same) (sym (append_assoc _ (waiting s) _) ∙ ap (λ l. l ++ i ∷ []) (g.in_program_order s)))
-            (λ t n. simp (eqb_other, entry_other) (g.in_program_order t));
+            (λ t n. simp (ne_eqb, entry_other) (g.in_program_order t));
       }
 
   -- an event that answers nothing: it brings nothing, or is such a firing
@@ -63,7 +64,7 @@ module _ {V : Type 0} {opened now : ℕ → V} {program waiting : ℕ → List (
         memory = memory;
         in_program_order = at_and_beside (λ t. cond (eqb t s) (performed_by t g.operations ++ i ∷ []) (performed_by t g.operations) ++ left_queue true s waiting t ≡ program t) s
             (simp (eqb_same, left_same) (append_assoc before (i ∷ []) _ ∙ ap (λ l. before ++ l) (sym (oldest_first (waiting s) i oldest)) ∙ g.in_program_order s))
-            (λ t n. simp (eqb_other, left_other) (g.in_program_order t));
+            (λ t n. simp (ne_eqb, left_other) (g.in_program_order t));
       }
 
   -- a station has worked its oldest instruction: answered it, or asked for a copy
@@ -81,7 +82,7 @@ module _ {V : Type 0} (sizes : Sizes) (v : V) where
   -- a set changes the opening values, and then nothing is performed yet
   in_preparation : {h : List (Event V)} {st : State V} → Leads sizes v h Preparation st → SoFar h st
   in_preparation {h} {st} r =
-      let g = still sizes v r refl in
+      let g = still sizes v r in
       record {
         operations = [];
         are_the_answers = g.performed_nothing;

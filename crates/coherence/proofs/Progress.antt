@@ -1,8 +1,9 @@
 -- While anything waits, some firing would be granted: a reply first, else a message on a down lane, else a request, else
 -- an instruction.
-use Rattle.std.proofs.Common.{◌≡◌, ℕ, zero, suc, ◌<◌, ◌≤◌, Bool, true, false, cond, ◌&&◌, eqb, ◌≢◌, ◌⊎◌, List, [], ◌∷◌, length, Some, None, Option, refl, ap, ◌∙◌, subst, inl, inr, arith}
+use Rattle.std.proofs.Common.{◌≡◌, ℕ, zero, suc, ◌<◌, ◌≤◌, true, false, ◌&&◌, eqb, ◌≢◌, ◌⊎◌, List, [], ◌∷◌, length, Some, None, Option, refl, ap, ◌∙◌, subst, inl, inr, arith}
 use Rattle.std.specs.Option.{option_map}
 use Rattle.std.specs.List.{AllByRecursion, slice_get}
+use Rattle.std.proofs.lemmas.Bool.Decides.{nat_tests}
 use Rattle.std.proofs.lemmas.Bool.{cases_lt, cases_Bool, eqb-true, eqb-false, and_parts, both_ways}
 use Rattle.messages.specs.declared.message.Kind.{Kind}
 use Rattle.messages.specs.declared.message.Kind.TheVariants.{ShReq, ExReq, WbRep, FlushRep}
@@ -28,39 +29,9 @@ use Rattle.coherence.specs.declared.call.Call.TheVariants.{Fire}
 use Rattle.coherence.specs.Questions.{questions, AllYes, Idle, oldest_page}
 use Rattle.coherence.specs.Promise.{named}
 use Rattle.coherence.proofs.Tables.{at_and_beside, eqb_same, one_lane, on, on_nil, on_oldest}
-use Rattle.coherence.proofs.Standing.{Seen, out, in_r, in_w, in_tr, in_tw, seen, to_read, to_write, by_write_back, by_flush, Standing, absent, asks, reads, read_granted, upgrades, granted_recalled, reader_recalled, upgrade_recalled, invalidated, invalidated_asks, write_granted, writes, grant_recalled, writer_recalled, written_back, written_back_asks, flushed, flushed_asks, HomeStateHolds, Invariant}
+use Rattle.coherence.proofs.Standing.{Seen, out, in_tr, in_tw, seen, Sees, unnamed, as_reader, as_recalled_reader, as_recalled_writer, sees, to_read, to_write, by_write_back, by_flush, Standing, absent, asks, reads, read_granted, upgrades, granted_recalled, reader_recalled, upgrade_recalled, invalidated, invalidated_asks, write_granted, writes, grant_recalled, writer_recalled, written_back, written_back_asks, flushed, flushed_asks, HomeStateHolds, Invariant}
 use Rattle.coherence.proofs.Steps.{collects_silent}
 use Rattle.coherence.proofs.Bounds.{Within}
-
--- how the home sees a station, and what its page then is
-data Sees (s : ℕ) : HomeState Stations → Seen → Type 0 where
-  unnamed : {x : HomeState Stations} → named x s ≡ false → Sees s x out
-  as_reader : {D : Stations} → D s ≡ true → Sees s (R D) in_r
-  as_writer : {t : ℕ} → s ≡ t → Sees s (W t) in_w
-  as_recalled_reader : {D : Stations} → D s ≡ true → Sees s (TR D) in_tr
-  as_recalled_writer : {t : ℕ} → s ≡ t → Sees s (TW t) in_tw
-
-sees : (x : HomeState Stations) (s : ℕ) → Sees s x (seen x s)
-sees (R D) s = by (D s) refl
-  where
-    by : (b : Bool) → D s ≡ b → Sees s (R D) (cond b in_r out)
-    by true e = as_reader e
-    by false e = unnamed e
-sees (W t) s = by (eqb s t) refl
-  where
-    by : (b : Bool) → eqb s t ≡ b → Sees s (W t) (cond b in_w out)
-    by true e = as_writer (eqb-true s t e)
-    by false e = unnamed e
-sees (TR D) s = by (D s) refl
-  where
-    by : (b : Bool) → D s ≡ b → Sees s (TR D) (cond b in_tr out)
-    by true e = as_recalled_reader e
-    by false e = unnamed e
-sees (TW t) s = by (eqb s t) refl
-  where
-    by : (b : Bool) → eqb s t ≡ b → Sees s (TW t) (cond b in_tw out)
-    by true e = as_recalled_writer (eqb-true s t e)
-    by false e = unnamed e
 
 -- whom the home names, as far as stations go
 abbrev NamesStations : HomeState Stations → Type 0
@@ -125,25 +96,15 @@ module _ {V : Type 0} {L : V} where
   no_recalled_writer x = elim x [ ]
 
   -- at a page that no station is named for, and where a station has nothing, no message of it waits
-  no_request : {k : Kind V} {q d r : List (Kind V)} → Standing L out none (k ∷ q) d r → ⊥
-  no_request x = elim x [ ]
-
-  no_down : {k : Kind V} {q d r : List (Kind V)} → Standing L out none q (k ∷ d) r → ⊥
-  no_down x = elim x [ ]
-
-  no_reply : {k : Kind V} {q d r : List (Kind V)} → Standing L out none q d (k ∷ r) → ⊥
-  no_reply x = elim x [ ]
+  nothing_waits : {q d r : List (Kind V)} → Standing L out none q d r → (q ≡ []) × (d ≡ []) × (r ≡ [])
+  nothing_waits absent = (refl, refl, refl)
 
   nothing_named : {a : Seen} {x : HomeState Stations} {s : ℕ} → Standing L a none [] [] [] → Sees s x a → named x s ≡ false
   nothing_named absent (unnamed e) = e
 
 -- whom a home's step sends to: the station concerned, or one that the page names
 sent_to_named : {V : Type 0} {s : ℕ} {h : HomePage V} {k : Kind V} {step : HomeStep V} → Serves s h k step → (t : ℕ) → sent_to step.sends t ≢ None → (t ≡ s) ⊎ (named h.state t ≡ true)
-sent_to_named {s = s} (shares y) t n = elim (cases_Bool (eqb t s)) [ inl e ↦ inl (eqb-true t s e) | inr e ↦ absurd (n (rw e)) ]
-sent_to_named {s = s} (gives_alone y) t n = elim (cases_Bool (eqb t s)) [ inl e ↦ inl (eqb-true t s e) | inr e ↦ absurd (n (rw e)) ]
-sent_to_named {s = s} (recalls_readers {D = D} y) t n = elim (cases_Bool (without D s t)) [ inl e ↦ inr (and_parts (D t) _ e).0 | inr e ↦ absurd (n (rw e)) ]
-sent_to_named (recalls_writer_to_read {t = u} m) t n = elim (cases_Bool (eqb t u)) [ inl e ↦ inr e | inr e ↦ absurd (n (rw e)) ]
-sent_to_named (recalls_writer_to_write {t = u} m) t n = elim (cases_Bool (eqb t u)) [ inl e ↦ inr e | inr e ↦ absurd (n (rw e)) ]
+sent_to_named rule t n = grind (arith, nat_tests)
 
 -- where a post is not empty
 module _ {V : Type 0} where
@@ -162,18 +123,15 @@ record Waiting {X : Type 0} (f : ℕ → List X) : Type 0 where
   is : slice_get (f place) 0 ≡ Some first
 
 some_waiting : {X : Type 0} (f : ℕ → List X) (n : ℕ) → Waiting f ⊎ ((s : ℕ) → s < n → f s ≡ [])
-some_waiting f zero = inr (λ s h. let z : ⊥ = omega arith in absurd z)
+some_waiting f zero = inr (λ s h. absurd (omega arith))
 some_waiting {X} f (suc n) = elim (some_waiting f n) [ inl h ↦ inl h | inr none_below ↦ by (f n) refl none_below ]
   where
     by : (l : List X) → f n ≡ l → ((s : ℕ) → s < n → f s ≡ []) → Waiting f ⊎ ((s : ℕ) → s < suc n → f s ≡ [])
     by [] e b = inr (at_and_beside (λ s. s < suc n → f s ≡ []) n (λ _. e) (λ s d h. b s (omega arith)))
     by (x ∷ l) e b = inl (record { place = n; first = x; is = ap (λ m. slice_get m 0) e })
 
-nothing_first : {X : Type 0} (l : List X) (x : X) → l ≡ [] → slice_get l 0 ≡ Some x → ⊥
-nothing_first l x e f = let z : ◌≡◌ {A = ℕ} 0 1 = cc in let w : ⊥ = omega arith in w
-
 first_asks_in : {V : Type 0} {pages : ℕ} (l : List (Instruction V)) (x : Instruction V) → AllByRecursion (λ i. i.page < pages) l → slice_get l 0 ≡ Some x → x.page < pages
-first_asks_in [] x a e = let z : ◌≡◌ {A = ℕ} 0 1 = cc in let w : ⊥ = omega arith in absurd w
+first_asks_in [] x a e = absurd (cc)
 first_asks_in {pages = pages} (y ∷ l) x a e = let same : y ≡ x = cc in subst (λ i. i.page < pages) same a.0
 
 module _ {V : Type 0} (sizes : Sizes) (L : ℕ → V) (st : State V) (i : Invariant L st) (w : Within sizes st) (few : sizes.stations ≤ station_limit) (one : 0 < sizes.room) where
@@ -185,7 +143,7 @@ module _ {V : Type 0} (sizes : Sizes) (L : ℕ → V) (st : State V) (i : Invari
   ]
 
   names_stations : (p : ℕ) → NamesStations (st.home p).state
-  names_stations p t h = elim (cases_Bool (named (st.home p).state t)) [ inl y ↦ let x : t < sizes.stations = named_served p t y in let z : ⊥ = omega arith in absurd z | inr y ↦ y ]
+  names_stations p t h = elim (cases_Bool (named (st.home p).state t)) [ inl y ↦ let x : t < sizes.stations = named_served p t y in absurd (omega arith) | inr y ↦ y ]
 
   -- a firing would be granted at a station where a rule fits the oldest entry and there is space
   WouldFire : Type 0
@@ -196,17 +154,19 @@ module _ {V : Type 0} (sizes : Sizes) (L : ℕ → V) (st : State V) (i : Invari
   fire_there {s} {kind} o fits e x z space = (kind, s, (w.extents, (x, ((o.page, e), ((o.page, e, z), ((o, fits), ((o, fits, space), tt)))))))
 
   served : {X : Type 0} (f : ℕ → List X) → ((s : ℕ) → sizes.stations ≤ s → f s ≡ []) → (s : ℕ) (x : X) → slice_get (f s) 0 ≡ Some x → s < sizes.stations
-  served f far s x e = elim (cases_lt s sizes.stations) [ inl h ↦ h | inr h ↦ absurd (nothing_first (f s) x (far s h) e) ]
+  served f far s x e = elim (cases_lt s sizes.stations) [ inl h ↦ h | inr h ↦ absurd (cc (far s h)) ]
 
   -- the page of a message that waits is one of the round's
-  page_of_reply : (s : ℕ) (m : Message V) → slice_get (st.lane Reply s) 0 ≡ Some m → m.page < sizes.pages
-  page_of_reply s m e = elim (cases_lt m.page sizes.pages) [ inl h ↦ h | inr h ↦ absurd (no_reply (simp (w.off_home m.page h, w.off_cell s m.page h, on_oldest _ _ e) at (i.at m.page s))) ]
+  off_page : (lane : Lane) (s p : ℕ) → sizes.pages ≤ p → on p (st.lane lane s) ≡ []
+  off_page lane s p h = by lane (nothing_waits (simp (w.off_home p h, w.off_cell s p h) at (i.at p s)))
+    where
+      by : (lane : Lane) → (on p (st.lane Request s) ≡ []) × (on p (st.lane Down s) ≡ []) × (on p (st.lane Reply s) ≡ []) → on p (st.lane lane s) ≡ []
+      by Request none_wait = none_wait.0
+      by Down none_wait = none_wait.1
+      by Reply none_wait = none_wait.2
 
-  page_of_down : (s : ℕ) (m : Message V) → slice_get (st.lane Down s) 0 ≡ Some m → m.page < sizes.pages
-  page_of_down s m e = elim (cases_lt m.page sizes.pages) [ inl h ↦ h | inr h ↦ absurd (no_down (simp (w.off_home m.page h, w.off_cell s m.page h, on_oldest _ _ e) at (i.at m.page s))) ]
-
-  page_of_request : (s : ℕ) (m : Message V) → slice_get (st.lane Request s) 0 ≡ Some m → m.page < sizes.pages
-  page_of_request s m e = elim (cases_lt m.page sizes.pages) [ inl h ↦ h | inr h ↦ absurd (no_request (simp (w.off_home m.page h, w.off_cell s m.page h, on_oldest _ _ e) at (i.at m.page s))) ]
+  page_waiting : (lane : Lane) (s : ℕ) (m : Message V) → slice_get (st.lane lane s) 0 ≡ Some m → m.page < sizes.pages
+  page_waiting lane s m e = elim (cases_lt m.page sizes.pages) [ inl h ↦ h | inr h ↦ absurd (cc (off_page lane s m.page h, on_oldest _ _ e)) ]
 
   -- an empty lane has space for what a station sends on it
   space_for_one : (to : Lane) (s p : ℕ) (k : Option (Kind V)) → s < sizes.stations → st.lane to s ≡ [] → (lane : Lane) (t : ℕ) → from_station to s p k lane t ≢ [] → (t < sizes.stations) × (length (st.lane lane t) < sizes.room)
@@ -220,7 +180,7 @@ module _ {V : Type 0} (sizes : Sizes) (L : ℕ → V) (st : State V) (i : Invari
       let s = h.place in
       let m = h.first in
       let found = reply_fits s (st.home m.page).value (names_stations m.page) (simp (on_oldest _ _ h.is) at (i.at m.page s)) (sees (st.home m.page).state s) in
-      fire_there _ (collects h.is found.1) (ap (option_map (λ x. x.page)) h.is) (served (st.lane Reply) (w.far_lane Reply) s m h.is) (page_of_reply s m h.is)
+      fire_there _ (collects h.is found.1) (ap (option_map (λ x. x.page)) h.is) (served (st.lane Reply) (w.far_lane Reply) s m h.is) (page_waiting Reply s m h.is)
       (λ lane t n. absurd ((posted_by_home m.page found.0.sends lane t n).1 (collects_silent found.1 t)))
 
   fire_down : ((s : ℕ) → st.lane Reply s ≡ []) → Waiting (st.lane Down) → WouldFire
@@ -229,7 +189,7 @@ module _ {V : Type 0} (sizes : Sizes) (L : ℕ → V) (st : State V) (i : Invari
       let m = h.first in
       let x = served (st.lane Down) (w.far_lane Down) s m h.is in
       let found = down_fits (simp (on_oldest _ _ h.is) at (i.at m.page s)) in
-      fire_there _ (receives h.is found.1) (ap (option_map (λ x. x.page)) h.is) x (page_of_down s m h.is)
+      fire_there _ (receives h.is found.1) (ap (option_map (λ x. x.page)) h.is) x (page_waiting Down s m h.is)
       (space_for_one Reply s m.page found.0.sends x (no-replies s))
 
   module _ (no-replies : (s : ℕ) → st.lane Reply s ≡ []) (no-downs : (s : ℕ) → st.lane Down s ≡ []) where
@@ -252,7 +212,7 @@ module _ {V : Type 0} (sizes : Sizes) (L : ℕ → V) (st : State V) (i : Invari
         let m = h.first in
         let x = served (st.lane Request) (w.far_lane Request) s m h.is in
         let found = request_fits s (st.home m.page).value (names_stations m.page) (simp (on_oldest _ _ h.is) at (with_requests m.page s)) (sees (st.home m.page).state s) (settled m.page) in
-        fire_there _ (serves h.is found.1) (ap (option_map (λ x. x.page)) h.is) x (page_of_request s m h.is)
+        fire_there _ (serves h.is found.1) (ap (option_map (λ x. x.page)) h.is) x (page_waiting Request s m h.is)
         (λ lane t n. space_down m.page s x found.1 lane t (posted_by_home m.page found.0.sends lane t n))
       where
         space_down : (p s : ℕ) → s < sizes.stations → {k : Kind V} {step : HomeStep V} → Serves s (st.home p) k step → (lane : Lane) (t : ℕ) → (lane ≡ Down) × (sent_to step.sends t ≢ None) → (t < sizes.stations) × (length (st.lane lane t) < sizes.room)

@@ -1,7 +1,7 @@
 -- Every history keeps the invariant, and so keeps the promise.
 use Rattle.std.proofs.Common.{◌≡◌, ℕ, ◌+◌, ◌<◌, ◌≤◌, ◌≢◌, List, [], ◌∷◌, ◌++◌, Some, Option, sym, refl, ap, ◌∙◌, subst, inl, inr, lt_of_lt_of_le, arith}
+use Rattle.std.proofs.lemmas.Bool.{ne_eqb}
 use mathlib.Core.Path.{fun_ext}
-use Rattle.std.specs.Option.{option_map}
 use Rattle.std.specs.List.{AllByRecursion}
 use Rattle.std.proofs.ByRecursion.{All-push}
 use Rattle.registers.specs.Sets.{station_limit, nobody, how_many}
@@ -17,16 +17,16 @@ use Rattle.protocol.specs.declared.pages.HomeState.TheVariants.{R, W, TR, TW}
 use Rattle.protocol.specs.declared.sizes.Sizes.{Sizes}
 use Rattle.protocol.specs.Deeds.{Account}
 use Rattle.protocol.specs.Rules.{Stations, page}
-use Rattle.protocol.specs.State.{State, Outcome, with_entry, extents_of, Fits, works, receives, collects, serves, Space, fires as fires-so}
+use Rattle.protocol.specs.State.{State, Outcome, with_entry, extents_of, Fits, Space, fires as fires-so}
 use Rattle.coherence.specs.declared.event.Event.{Event}
 use Rattle.coherence.specs.declared.event.Event.TheVariants.{Prepared, Set, Started, Issued, Fired, Closed as WasClosed, ReadOut, Denied}
 use Rattle.coherence.specs.declared.phase.Phase.{Phase}
-use Rattle.coherence.specs.declared.phase.Phase.TheVariants.{Preparation, Field, Closed}
+use Rattle.coherence.specs.declared.phase.Phase.TheVariants.{Preparation, Closed}
 use Rattle.coherence.specs.Questions.{Idle, oldest_page}
-use Rattle.coherence.specs.Histories.{sets as set-goes, starts as start-goes, issues as issue-goes, fires as fire-goes, closes as close-goes, reads_out as readout-goes, with_value, with_instruction, Shows, sets, starts, issues, fires, closes, reads_out, Leads, prepared, granted, denied}
+use Rattle.coherence.specs.Histories.{sets as set-goes, starts as start-goes, issues as issue-goes, fires as fire-goes, closes as close-goes, reads_out as readout-goes, with_value, with_instruction, Shows, Does, sets, starts, issues, fires, closes, reads_out, Leads, prepared, granted, denied}
 use Rattle.coherence.specs.Promise.{nothing, brings, issues_of, answers_of, opening_values, last_stored, with_deed, with_opening, latest, total, Tells, loads, reads_out as tells-readout, AllTold, InOrder, writing, named, EveryHistoryKeepsThePromise}
 use Rattle.coherence.specs.Sequential.{Performs, none_yet, passes}
-use Rattle.coherence.proofs.Tables.{at_and_beside, eqb_same, eqb_other, entry_same, entry_other, on_nil}
+use Rattle.coherence.proofs.Tables.{at_and_beside, eqb_same, entry_same, entry_other, on_nil}
 use Rattle.coherence.proofs.Standing.{in_w, in_tw, seen, Standing, absent, writes, HomeStateHolds, Invariant}
 use Rattle.coherence.proofs.Firings.{keeps}
 use Rattle.coherence.proofs.Bounds.{Within, stays}
@@ -45,29 +45,13 @@ pub record Good {V : Type 0} (sizes : Sizes) (v : V) (h : List (Event V)) (st : 
   pub ordered : (s : ℕ) → InOrder (answers_of s h) (issues_of s h) (st.queue s)
   pub balanced : (p : ℕ) → total (λ a. a.grants) p h ≡ how_many (named (st.home p).state) + total (λ a. a.returns) p h + total (λ a. a.folds) p h
 
--- the phases are apart
-field≢preparation : Field ≢ Preparation
-field≢preparation e = let z : ◌≡◌ {A = ℕ} 0 1 = cc in let w : ⊥ = omega arith in w
-
-closed≢preparation : Closed ≢ Preparation
-closed≢preparation e = let z : ◌≡◌ {A = ℕ} 0 1 = cc in let w : ⊥ = omega arith in w
-
-preparation≢closed : Preparation ≢ Closed
-preparation≢closed e = closed≢preparation (sym e)
-
-field≢closed : Field ≢ Closed
-field≢closed e = let z : ◌≡◌ {A = ℕ} 0 1 = cc in let w : ⊥ = omega arith in w
-
 -- the page of the oldest entry is one of the round's
 page_inside : (oldest : Option ℕ) (p pages : ℕ) → oldest ≡ Some p → (q : ℕ) × (oldest ≡ Some q) × (q < pages) → p < pages
 page_inside oldest p pages e inside = let f = inside.1 in let same : inside.0 ≡ p = cc in subst (λ x. x < pages) same inside.2
 
 -- the oldest entry's page is the one that the rule answers
 pub page_answered : {V : Type 0} {st : State V} {s : ℕ} {kind : FiringKind} {o : Outcome V} → Fits st s kind o → oldest_page st kind s ≡ Some o.page
-page_answered (works e rule) = ap (option_map (λ x. x.page)) e
-page_answered (receives e rule) = ap (option_map (λ x. x.page)) e
-page_answered (collects e rule) = ap (option_map (λ x. x.page)) e
-page_answered (serves e rule) = ap (option_map (λ x. x.page)) e
+page_answered fits = grind arith
 
 module _ {V : Type 0} (sizes : Sizes) (v : V) where
   -- in preparation there have been sets only
@@ -101,6 +85,18 @@ module _ {V : Type 0} (sizes : Sizes) (v : V) where
         extents = extents_of sizes;
       }
 
+  still_set : {h : List (Event V)} {p : ℕ} {w : V} {before after : State V} → Does sizes before (Set p w) after → Still h before → Still (Set p w ∷ h) after
+  still_set {p = p} {w = w} sets g =
+      record {
+        stored_nothing = g.stored_nothing;
+        state = ap (with_value p w) g.state ∙ set_in_preparation _ p w;
+        issued_nothing = g.issued_nothing;
+        performed_nothing = passes refl g.performed_nothing;
+        answered_nothing = g.answered_nothing;
+        counted_nothing = g.counted_nothing;
+        told_nothing = (λ q u x. elim x [ ], g.told_nothing);
+      }
+
   still_denied : {h : List (Event V)} {st : State V} {e : Event V} → brings e ≡ nothing → ((p : ℕ) (w : V) → Tells e p w → w ≡ latest v h p) → Still h st → Still (e ∷ h) st
   still_denied {h} {st} {e} b t g =
       record {
@@ -113,28 +109,18 @@ module _ {V : Type 0} (sizes : Sizes) (v : V) where
         told_nothing = (t, g.told_nothing);
       }
 
-  pub still : {h : List (Event V)} {phase : Phase} {st : State V} → Leads sizes v h phase st → phase ≡ Preparation → Still h st
-  still (prepared before pass) e =
+  pub still : {h : List (Event V)} {st : State V} → Leads sizes v h Preparation st → Still h st
+  still (prepared before pass) =
       record { stored_nothing = λ _. refl; state = refl; issued_nothing = λ _. refl; performed_nothing = passes refl none_yet; answered_nothing = λ _. refl; counted_nothing = λ _ _. refl; told_nothing = (λ p w x. elim x [ ], tt) }
-  still (granted {e = Set p w} r set-goes pass sets) e =
-      let g = still r refl in
-      record {
-        stored_nothing = g.stored_nothing;
-        state = ap (with_value p w) g.state ∙ set_in_preparation _ p w;
-        issued_nothing = g.issued_nothing;
-        performed_nothing = passes refl g.performed_nothing;
-        answered_nothing = g.answered_nothing;
-        counted_nothing = g.counted_nothing;
-        told_nothing = (λ q u x. elim x [ ], g.told_nothing);
-      }
-  still (granted {e = Started} r start-goes pass starts) e = absurd (field≢preparation e)
-  still (granted {e = Issued s i} r issue-goes pass issues) e = absurd (field≢preparation e)
-  still (granted {e = Fired kind s p deed} r fire-goes pass (fires f)) e = absurd (field≢preparation e)
-  still (granted {e = WasClosed} r close-goes pass closes) e = absurd (closed≢preparation e)
-  still (granted {e = ReadOut p w} r readout-goes pass (reads_out x)) e = absurd (closed≢preparation e)
-  still (granted {e = Prepared z w} r goes pass does) e = elim goes [ ]
-  still (granted {e = Denied c k} r goes pass does) e = elim does [ ]
-  still (denied r goes first) e = still_denied refl (λ p w x. elim x [ ]) (still r e)
+  still (granted {e = Set p w} r set-goes pass does) = still_set does (still r)
+  still (granted {e = Started} r goes pass does) = elim goes [ ]
+  still (granted {e = Issued s i} r goes pass does) = elim goes [ ]
+  still (granted {e = Fired kind s p deed} r goes pass does) = elim goes [ ]
+  still (granted {e = WasClosed} r goes pass does) = elim goes [ ]
+  still (granted {e = ReadOut p w} r goes pass does) = elim goes [ ]
+  still (granted {e = Prepared z w} r goes pass does) = elim goes [ ]
+  still (granted {e = Denied c k} r goes pass does) = elim does [ ]
+  still (denied r goes first) = still_denied refl (λ p w x. elim x [ ]) (still r)
 
   -- the sizes passed prepare's questions
   allowed : {h : List (Event V)} {phase : Phase} {st : State V} → Leads sizes v h phase st → (sizes.stations ≤ station_limit) × (0 < sizes.room)
@@ -143,21 +129,20 @@ module _ {V : Type 0} (sizes : Sizes) (v : V) where
   allowed (denied r goes first) = allowed r
 
   -- nothing waits once a round is closed
-  closed_idle : {h : List (Event V)} {phase : Phase} {st : State V} → Leads sizes v h phase st → phase ≡ Closed → Idle st
-  closed_idle (prepared before pass) e = absurd (preparation≢closed e)
-  closed_idle (granted {e = Prepared z w} r goes pass does) e = elim goes [ ]
-  closed_idle (granted {e = Set p w} r set-goes pass sets) e = absurd (preparation≢closed e)
-  closed_idle (granted {e = Started} r start-goes pass starts) e = absurd (field≢closed e)
-  closed_idle (granted {e = Issued s i} r issue-goes pass issues) e = absurd (field≢closed e)
-  closed_idle (granted {e = Fired kind s p deed} r fire-goes pass (fires f)) e = absurd (field≢closed e)
-  closed_idle (granted {e = WasClosed} r close-goes pass closes) e = pass.1.0
-  closed_idle (granted {e = ReadOut p w} r readout-goes pass (reads_out x)) e = closed_idle r refl
-  closed_idle (granted {e = Denied c k} r goes pass does) e = elim does [ ]
-  closed_idle (denied r goes first) e = closed_idle r e
+  closed_idle : {h : List (Event V)} {st : State V} → Leads sizes v h Closed st → Idle st
+  closed_idle (granted {e = Prepared z w} r goes pass does) = elim goes [ ]
+  closed_idle (granted {e = Set p w} r goes pass does) = elim goes [ ]
+  closed_idle (granted {e = Started} r goes pass does) = elim goes [ ]
+  closed_idle (granted {e = Issued s i} r goes pass does) = elim goes [ ]
+  closed_idle (granted {e = Fired kind s p deed} r goes pass does) = elim goes [ ]
+  closed_idle (granted {e = WasClosed} r close-goes pass closes) = pass.1.0
+  closed_idle (granted {e = ReadOut p w} r readout-goes pass (reads_out x)) = closed_idle r
+  closed_idle (granted {e = Denied c k} r goes pass does) = elim does [ ]
+  closed_idle (denied r goes first) = closed_idle r
 
   good_in_preparation : {h : List (Event V)} {st : State V} → Leads sizes v h Preparation st → Good sizes v h st
   good_in_preparation {h} {st} r =
-      let g = still r refl in
+      let g = still r in
       let a = allowed r in
       let L : latest v h ≡ opening_values v h = g.stored_nothing (opening_values v h) in
       let i : Invariant (opening_values v h) (PreparedWith (opening_values v h)) = record { at = λ p s. simp on_nil absent; homes = λ p. refl } in
@@ -205,14 +190,14 @@ module _ {V : Type 0} (sizes : Sizes) (v : V) where
           asks_in = at_and_beside (λ t. AllByRecursion (λ i. i.page < sizes.pages) (with_entry st.queue s (st.queue s ++ i ∷ []) t)) s (simp entry_same (All-push _ (st.queue s) i (w.asks_in s) z)) (λ t n. simp entry_other (w.asks_in t));
         };
         told = (λ p u y. elim y [ ], g.told);
-        ordered = at_and_beside (λ t. InOrder (answers_of t h) (issues_of t (Issued s i ∷ h)) (with_entry st.queue s (st.queue s ++ i ∷ []) t)) s (simp (eqb_same, entry_same) (one_issued (answers_of s h) (issues_of s h) (st.queue s) i (g.ordered s))) (λ t n. simp (eqb_other, entry_other) (g.ordered t));
+        ordered = at_and_beside (λ t. InOrder (answers_of t h) (issues_of t (Issued s i ∷ h)) (with_entry st.queue s (st.queue s ++ i ∷ []) t)) s (simp (eqb_same, entry_same) (one_issued (answers_of s h) (issues_of s h) (st.queue s) i (g.ordered s))) (λ t n. simp (ne_eqb, entry_other) (g.ordered t));
         balanced = g.balanced;
       }
 
   -- a firing that tells a value has loaded it
   tells_loaded : {e : Event V} {q p s : ℕ} {w : V} {kind : FiringKind} {deed : Deed V} → Tells e q w → e ≡ Fired kind s p deed → (deed ≡ Loaded w) × (q ≡ p)
   tells_loaded loads e = (cc, cc)
-  tells_loaded tells-readout e = let z : ◌≡◌ {A = ℕ} 0 1 = cc in let w : ⊥ = omega arith in absurd w
+  tells_loaded tells-readout e = absurd (cc)
 
   good_fire : {h : List (Event V)} {st : State V} {s : ℕ} {kind : FiringKind} {o : Outcome V} → Fits st s kind o → Space sizes st o → s < sizes.stations → o.page < sizes.pages → Good sizes v h st → Good sizes v (Fired kind s o.page o.deed ∷ h) o.after
   good_fire {h} {st} {s} {kind} {o} fits space x z g =
@@ -226,7 +211,7 @@ module _ {V : Type 0} (sizes : Sizes) (v : V) where
         ordered = fired_in_order st (λ t. answers_of t h) (λ t. issues_of t h) g.ordered fits;
         balanced = at_and_beside (λ q. total (λ a. a.grants) q (Fired kind s o.page o.deed ∷ h) ≡ how_many (named (o.after.home q).state) + total (λ a. a.returns) q (Fired kind s o.page o.deed ∷ h) + total (λ a. a.folds) q (Fired kind s o.page o.deed ∷ h)) o.page
             (simp eqb_same (omega (arith, balances fits low, g.balanced o.page)))
-            (λ q n. simp (eqb_other, same_home fits q n) (omega (arith, g.balanced q)));
+            (λ q n. simp (ne_eqb, same_home fits q n) (omega (arith, g.balanced q)));
       }
 
   -- a readout of an idle state: the one writing copy, or the home's value
@@ -254,7 +239,7 @@ module _ {V : Type 0} (sizes : Sizes) (v : V) where
     shown_latest p w (inr x) = sym x.1 ∙ home_latest p x.0
 
   tells_shown : {e : Event V} {q p : ℕ} {w u : V} → Tells e q w → e ≡ ReadOut p u → (w ≡ u) × (q ≡ p)
-  tells_shown loads e = let z : ◌≡◌ {A = ℕ} 0 1 = cc in let w : ⊥ = omega arith in absurd w
+  tells_shown loads e = absurd (cc)
   tells_shown tells-readout e = (cc, cc)
 
   pub good : {h : List (Event V)} {phase : Phase} {st : State V} → Leads sizes v h phase st → Good sizes v h st
@@ -266,7 +251,7 @@ module _ {V : Type 0} (sizes : Sizes) (v : V) where
   good (granted {e = Fired kind s p deed} r fire-goes pass (fires (fires-so fits space))) =
       good_fire fits space pass.1.0 (page_inside _ p sizes.pages (page_answered fits) pass.1.1.1.0) (good r)
   good (granted {e = WasClosed} r close-goes pass closes) = good_quiet refl (λ p w x. elim x [ ]) (good r)
-  good (granted {e = ReadOut p u} {h = h} r readout-goes pass (reads_out x)) = good_quiet refl (λ q w y. let t = tells_shown y refl in t.0 ∙ shown_latest (good r) (closed_idle r refl) p u x ∙ ap (latest v h) (sym t.1)) (good r)
+  good (granted {e = ReadOut p u} {h = h} r readout-goes pass (reads_out x)) = good_quiet refl (λ q w y. let t = tells_shown y refl in t.0 ∙ shown_latest (good r) (closed_idle r) p u x ∙ ap (latest v h) (sym t.1)) (good r)
   good (granted {e = Denied c k} r goes pass does) = elim does [ ]
   good (denied r goes first) = good_quiet refl (λ p w x. elim x [ ]) (good r)
 

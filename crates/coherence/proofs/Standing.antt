@@ -1,6 +1,7 @@
 -- How a station can stand to a page: how the home sees it, its cell, and the messages of that page on its three lanes.
 -- No other combination ever occurs.
-use Rattle.std.proofs.Common.{◌≡◌, ℕ, cond, eqb, List, [], ◌∷◌}
+use Rattle.std.proofs.Common.{◌≡◌, ℕ, true, false, cond, eqb, List, [], ◌∷◌}
+use Rattle.std.proofs.lemmas.Bool.{cond_both, eqb-true}
 use Rattle.messages.specs.declared.message.Kind.{Kind}
 use Rattle.messages.specs.declared.message.Kind.TheVariants.{ShReq, ExReq, ShRep, ExRep, WbReq, FlushReq, InvReq, WbRep, FlushRep, InvRep}
 use Rattle.links.specs.declared.lane.Lane.TheVariants.{Request, Reply, Down}
@@ -10,6 +11,7 @@ use Rattle.protocol.specs.declared.pages.HomeState.{HomeState}
 use Rattle.protocol.specs.declared.pages.HomeState.TheVariants.{R, W, TR, TW}
 use Rattle.protocol.specs.Rules.{Stations, HomePage, Someone}
 use Rattle.protocol.specs.State.{State}
+use Rattle.coherence.specs.Promise.{named}
 use Rattle.coherence.proofs.Tables.{on}
 
 -- how the home sees a station: not named, or named in one of the four states
@@ -21,6 +23,20 @@ seen (R D) s = cond (D s) in_r out
 seen (W t) s = cond (eqb s t) in_w out
 seen (TR D) s = cond (D s) in_tr out
 seen (TW t) s = cond (eqb s t) in_tw out
+
+-- how the home sees a station, and what its page then is
+pub data Sees (s : ℕ) : HomeState Stations → Seen → Type 0 where
+  unnamed : {x : HomeState Stations} → named x s ≡ false → Sees s x out
+  as_reader : {D : Stations} → D s ≡ true → Sees s (R D) in_r
+  as_writer : {t : ℕ} → s ≡ t → Sees s (W t) in_w
+  as_recalled_reader : {D : Stations} → D s ≡ true → Sees s (TR D) in_tr
+  as_recalled_writer : {t : ℕ} → s ≡ t → Sees s (TW t) in_tw
+
+pub sees : (x : HomeState Stations) (s : ℕ) → Sees s x (seen x s)
+sees (R D) s = cond_both (D s) in_r out (Sees s (R D)) (λ e. as_reader e) (λ e. unnamed e)
+sees (W t) s = cond_both (eqb s t) in_w out (Sees s (W t)) (λ e. as_writer (eqb-true s t e)) (λ e. unnamed e)
+sees (TR D) s = cond_both (D s) in_tr out (Sees s (TR D)) (λ e. as_recalled_reader e) (λ e. unnamed e)
+sees (TW t) s = cond_both (eqb s t) in_tw out (Sees s (TW t)) (λ e. as_recalled_writer (eqb-true s t e)) (λ e. unnamed e)
 
 pub data Asking {V : Type 0} : Kind V → Type 0 where
   to_read : Asking ShReq

@@ -1,12 +1,13 @@
 -- Tables changed at one place, sets with one station more or less, and the messages of one page on a lane.
-use Rattle.std.proofs.Common.{◌≡◌, ℕ, ◌<◌, Bool, true, false, cond, ◌&&◌, ◌||◌, eqb, ◌≢◌, List, [], ◌∷◌, ◌++◌, drop, Some, None, Option, sym, refl, ap, ◌∙◌, subst, inl, inr, append-nil}
+use Rattle.std.proofs.Common.{◌≡◌, ℕ, ◌<◌, Bool, true, false, cond, ◌&&◌, eqb, ◌≢◌, List, [], ◌∷◌, ◌++◌, drop, Some, None, Option, sym, refl, ap, ◌∙◌, subst, inl, inr, append-nil, arith}
+use Rattle.std.proofs.Math.Bool.{and-true, and-false, or-true, or-false}
 use Rattle.std.specs.List.{slice_get}
-use Rattle.std.proofs.lemmas.Bool.{eq-eqb, ne_eqb, lt-ltb, eqb-true, and_parts, false≢true, cases_eq, cases_Bool}
+use Rattle.std.proofs.lemmas.Bool.{eq-eqb, ne_eqb, lt-ltb, eqb-true, and_parts, cases_eq, cases_Bool}
 use Rattle.messages.specs.declared.message.Kind.{Kind}
 use Rattle.messages.specs.declared.message.Message.{Message}
 use Rattle.registers.specs.Sets.{station_limit, including, without}
 use Rattle.links.specs.declared.lane.Lane.{Lane}
-use Rattle.links.specs.declared.lane.Lane.TheVariants.{Request, Reply, Down}
+use Rattle.links.specs.declared.lane.Lane.TheVariants.{Down}
 use Rattle.links.specs.View.{same_lane}
 use Rattle.protocol.specs.declared.instruction.Instruction.{Instruction}
 use Rattle.protocol.specs.Rules.{Stations, Sends}
@@ -19,47 +20,20 @@ at_and_beside P k here there j = elim (cases_eq j k) [ inl e ↦ subst P (sym e)
 pub eqb_same : (k : ℕ) → eqb k k ≡ true
 eqb_same k = eq-eqb k k refl
 
-pub eqb_other : (j k : ℕ) → j ≢ k → eqb j k ≡ false
-eqb_other j k n = ne_eqb j k n
-
-pub and_true : (b : Bool) → (b && true) ≡ b
-and_true true = refl
-and_true false = refl
-
-pub and_false : (b : Bool) → (b && false) ≡ false
-and_false true = refl
-and_false false = refl
-
-pub or_false : (b : Bool) → (b || false) ≡ b
-or_false true = refl
-or_false false = refl
-
-pub or_true : (b : Bool) → (b || true) ≡ true
-or_true true = refl
-or_true false = refl
-
 pub included : (D : Stations) (s : ℕ) → s < station_limit → including D s s ≡ true
-included D s h = simp (eqb_same, lt-ltb s station_limit h, or_true)
+included D s h = simp (eqb_same, lt-ltb s station_limit h, or-true)
 
 pub included_other : (D : Stations) (s t : ℕ) → t ≢ s → including D s t ≡ D t
-included_other D s t n = simp (eqb_other, or_false)
+included_other D s t n = simp (ne_eqb, or-false)
 
 pub struck : (D : Stations) (s : ℕ) → without D s s ≡ false
-struck D s = simp (eqb_same, and_false)
+struck D s = simp (eqb_same, and-false)
 
 pub struck_other : (D : Stations) (s t : ℕ) → t ≢ s → without D s t ≡ D t
-struck_other D s t n = simp (eqb_other, and_true)
+struck_other D s t n = simp (ne_eqb, and-true)
 
 pub one_lane : (a b : Lane) → same_lane a b ≡ true → a ≡ b
-one_lane Request Request e = refl
-one_lane Request Reply e = absurd (false≢true e)
-one_lane Request Down e = absurd (false≢true e)
-one_lane Reply Request e = absurd (false≢true e)
-one_lane Reply Reply e = refl
-one_lane Reply Down e = absurd (false≢true e)
-one_lane Down Request e = absurd (false≢true e)
-one_lane Down Reply e = absurd (false≢true e)
-one_lane Down Down e = refl
+one_lane a b e = grind arith
 
 module _ {X : Type 0} where
   pub entry_same : (f : ℕ → X) (k : ℕ) (a : X) → with_entry f k a k ≡ a
@@ -68,7 +42,7 @@ module _ {X : Type 0} where
 
   pub entry_other : (f : ℕ → X) (k : ℕ) (a : X) (j : ℕ) → j ≢ k → with_entry f k a j ≡ f j
   unfolding with_entry
-  entry_other f k a j n = simp eqb_other
+  entry_other f k a j n = simp ne_eqb
 
   pub cell_same : (f : ℕ → ℕ → X) (s p : ℕ) (a : X) → with_cell f s p a s p ≡ a
   unfolding with_cell
@@ -76,26 +50,26 @@ module _ {X : Type 0} where
 
   pub cell_station : (f : ℕ → ℕ → X) (s p : ℕ) (a : X) (t q : ℕ) → t ≢ s → with_cell f s p a t q ≡ f t q
   unfolding with_cell
-  cell_station f s p a t q n = simp eqb_other
+  cell_station f s p a t q n = simp ne_eqb
 
   pub cell_page : (f : ℕ → ℕ → X) (s p : ℕ) (a : X) (t q : ℕ) → q ≢ p → with_cell f s p a t q ≡ f t q
   unfolding with_cell
-  cell_page f s p a t q n = simp (eqb_other, and_false)
+  cell_page f s p a t q n = simp (ne_eqb, and-false)
 
   -- the oldest entry of a lane or a queue, and the others
   pub oldest_first : (l : List X) (m : X) → slice_get l 0 ≡ Some m → l ≡ m ∷ drop 1 l
   oldest_first [] m e = cc
-  oldest_first (x ∷ l) m e = let same : x ≡ m = cc in ap {B = List X} (λ y. y ∷ l) same
+  oldest_first (x ∷ l) m e = cc
 
 -- the oldest instruction has left its queue, or has stayed
 module _ {V : Type 0} (queue : ℕ → List (Instruction V)) (leaves : Bool) (s : ℕ) where
   pub left_same : left_queue leaves s queue s ≡ cond leaves (drop 1 (queue s)) (queue s)
   unfolding left_queue
-  left_same = simp (eqb_same, and_true)
+  left_same = simp (eqb_same, and-true)
 
   pub left_other : (t : ℕ) → t ≢ s → left_queue leaves s queue t ≡ queue t
   unfolding left_queue
-  left_other t n = simp (eqb_other, and_false)
+  left_other t n = simp (ne_eqb, and-false)
 
 module _ {V : Type 0} where
   -- the kinds of the messages of one page, on a lane
@@ -114,11 +88,7 @@ module _ {V : Type 0} where
   pub on_append : (p : ℕ) (l m : List (Message V)) → on p (l ++ m) ≡ on p l ++ on p m
   unfolding on
   on_append p [] m = refl
-  on_append p (x ∷ l) m = go (eqb p x.page) (on_append p l m)
-    where
-      go : (t : Bool) → on p (l ++ m) ≡ on p l ++ on p m → cond t (x.kind ∷ on p (l ++ m)) (on p (l ++ m)) ≡ cond t (x.kind ∷ on p l) (on p l) ++ on p m
-      go true e = ap {B = List (Kind V)} (λ r. x.kind ∷ r) e
-      go false e = e
+  on_append p (x ∷ l) m = elim (cases_Bool (eqb p x.page)) [ inl e ↦ simp (e, on_append p l m) | inr e ↦ simp (e, on_append p l m) ]
 
   on_page : (m : Message V) (l : List (Message V)) → on m.page (m ∷ l) ≡ m.kind ∷ on m.page l
   unfolding on
@@ -126,7 +96,7 @@ module _ {V : Type 0} where
 
   on_other_page : (p : ℕ) (m : Message V) (l : List (Message V)) → p ≢ m.page → on p (m ∷ l) ≡ on p l
   unfolding on
-  on_other_page p m l n = simp eqb_other
+  on_other_page p m l n = simp ne_eqb
 
   pub on_oldest : (l : List (Message V)) (m : Message V) → slice_get l 0 ≡ Some m → on m.page l ≡ m.kind ∷ on m.page (drop 1 l)
   on_oldest l m e = ap (on m.page) (oldest_first l m e) ∙ on_page m (drop 1 l)
@@ -142,7 +112,7 @@ module _ {V : Type 0} where
   on_listed_other : (p q : ℕ) (k : Option (Kind V)) → q ≢ p → on q (listed p k) ≡ []
   unfolding on
   on_listed_other p q None n = refl
-  on_listed_other p q (Some k) n = simp eqb_other
+  on_listed_other p q (Some k) n = simp ne_eqb
 
   module _ (f : Lane → ℕ → List (Message V)) where
     on_posted : (posts : Posts V) (q : ℕ) (lane : Lane) (t : ℕ) → on q (posted f posts lane t) ≡ on q (f lane t) ++ on q (posts lane t)
@@ -164,7 +134,7 @@ module _ {V : Type 0} where
 
       pub sent_station : (q : ℕ) (lane : Lane) (t : ℕ) → t ≢ s → on q (posted f (from_station out s p k) lane t) ≡ on q (f lane t)
       unfolding from_station
-      sent_station q lane t n = nothing_posted (from_station out s p k) q lane t (simp (eqb_other, and_false, on_nil))
+      sent_station q lane t n = nothing_posted (from_station out s p k) q lane t (simp (ne_eqb, and-false, on_nil))
 
       pub sent_page : (q : ℕ) (lane : Lane) (t : ℕ) → q ≢ p → on q (posted f (from_station out s p k) lane t) ≡ on q (f lane t)
       unfolding from_station
@@ -188,15 +158,15 @@ module _ {V : Type 0} where
     module _ (leaves : Bool) (from : Lane) (s : ℕ) where
       pub left_here : left_lane leaves from s f from s ≡ cond leaves (drop 1 (f from s)) (f from s)
       unfolding left_lane
-      left_here = simp (eqb_same, and_true)
+      left_here = simp (eqb_same, and-true)
 
       pub left_lane_lem : (lane : Lane) (t : ℕ) → same_lane lane from ≡ false → left_lane leaves from s f lane t ≡ f lane t
       unfolding left_lane
-      left_lane_lem lane t e = simp (e, and_false)
+      left_lane_lem lane t e = simp (e, and-false)
 
       pub left_station : (lane : Lane) (t : ℕ) → t ≢ s → left_lane leaves from s f lane t ≡ f lane t
       unfolding left_lane
-      left_station lane t n = simp (eqb_other, and_false)
+      left_station lane t n = simp (ne_eqb, and-false)
 
       -- of another page than the oldest message's nothing leaves
       pub left_page : (m : Message V) (q : ℕ) (lane : Lane) (t : ℕ) → slice_get (f from s) 0 ≡ Some m → q ≢ m.page → on q (left_lane leaves from s f lane t) ≡ on q (f lane t)

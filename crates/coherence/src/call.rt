@@ -3,18 +3,30 @@ use protocol::instruction::Instruction;
 use protocol::sizes::Sizes;
 
 // A call of a round.
-#[derive(Clone, Copy)]
+#[derive(Clone, Copy, PartialEq, Eq, Debug)]
 pub enum Call<V> {
     // A round of these sizes, every page with this value.
-    Prepare(Sizes, V),
+    Prepare {
+        sizes: Sizes,
+        value: V,
+    },
     // Another opening value for a page.
-    Set(usize, V),
+    Set {
+        page: usize,
+        value: V,
+    },
     Start,
-    // An instruction for a station.
-    Issue(usize, Instruction<V>),
+    Issue {
+        station: usize,
+        instruction: Instruction<V>,
+    },
     // A rule is tried for a station.
-    Fire(FiringKind, usize),
+    Fire {
+        kind: FiringKind,
+        station: usize,
+    },
     Close,
-    // The value of a page.
-    Readout(usize),
+    Readout {
+        page: usize,
+    },
 }

@@ -6,16 +6,34 @@ use protocol::instruction::Instruction;
 use protocol::sizes::Sizes;
 
 // A call together with its answer: what each granted call did, or which call was denied and why.
-#[derive(Clone, Copy)]
+#[derive(Clone, Copy, PartialEq, Eq, Debug)]
 pub enum Event<V> {
-    Prepared(Sizes, V),
-    Set(usize, V),
+    Prepared {
+        sizes: Sizes,
+        value: V,
+    },
+    Set {
+        page: usize,
+        value: V,
+    },
     Started,
-    Issued(usize, Instruction<V>),
-    // The kind of firing, the station, the page and the deed.
-    Fired(FiringKind, usize, usize, Deed<V>),
+    Issued {
+        station: usize,
+        instruction: Instruction<V>,
+    },
+    Fired {
+        kind: FiringKind,
+        station: usize,
+        page: usize,
+        deed: Deed<V>,
+    },
     Closed,
-    // The page and its value.
-    ReadOut(usize, V),
-    Denied(Call<V>, Refusal),
+    ReadOut {
+        page: usize,
+        value: V,
+    },
+    Denied {
+        call: Call<V>,
+        refusal: Refusal,
+    },
 }

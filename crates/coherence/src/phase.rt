@@ -1,5 +1,5 @@
 // The states of a round.
-#[derive(Clone, Copy)]
+#[derive(Clone, Copy, PartialEq, Eq, Debug)]
 pub enum Phase {
     Preparation,
     Field,

@@ -1,11 +1,11 @@
 -- The listing call by call: the calls until each one lead to its state, from the call before.
-use Rattle.std.proofs.Common.{◌≡◌, ℕ, ◌<◌, Bool, true, false, ◌≢◌, ◌⊎◌, List, [], ◌∷◌, sym, refl, ap, subst, inl, inr, arith}
-use Rattle.std.proofs.lemmas.Bool.{cases_eq, false≢true}
+use Rattle.std.proofs.Common.{◌≡◌, ℕ, ◌<◌, ◌≢◌, List, [], ◌∷◌, refl, inl, inr, arith}
+use Rattle.std.proofs.lemmas.Bool.{ne_eqb}
 use Rattle.messages.specs.declared.message.Kind.TheVariants.{ShReq, ExReq, ShRep, ExRep, WbReq, WbRep}
 use Rattle.links.specs.declared.lane.Lane.{Lane}
 use Rattle.links.specs.declared.lane.Lane.TheVariants.{Request, Reply, Down}
 use Rattle.protocol.specs.declared.cell.Cell.{Cell}
-use Rattle.protocol.specs.declared.cell.Cell.TheVariants.{None as none, Sh, Ex, Pend}
+use Rattle.protocol.specs.declared.cell.Cell.TheVariants.{None as none, Ex}
 use Rattle.protocol.specs.declared.deed.Deed.TheVariants.{Loaded, Stored, Asked, Received, Yielded, WrittenBack, Shared, Exclusive, Recalling}
 use Rattle.protocol.specs.declared.deed.Fold.TheVariants.{NoCopy}
 use Rattle.protocol.specs.declared.firing.FiringKind.TheVariants.{Work, Receive, Collect, Serve}
@@ -24,7 +24,7 @@ use Rattle.coherence.specs.Histories.{Leads}
 use Rattle.coherence.specs.Histories.Goes.{sets as may-set, starts as may-start, issues as may-issue, fires as may-fire, closes as may-close, reads_out as may-read-out}
 use Rattle.coherence.specs.Histories.Does.{sets, starts, issues, closes, reads_out}
 use Rattle.coherence.specs.Histories.Leads.{prepared, granted, denied}
-use Rattle.coherence.proofs.Tables.{at_and_beside, eqb_other}
+use Rattle.coherence.proofs.Tables.{at_and_beside}
 use Rattle.worked_cases.specs.Cases.{sizes, listing}
 use Rattle.worked_cases.proofs.States.{storing, loading, step_6, step_7, step_8, step_10, step_11, step_12, step_13, step_14, step_15, step_16, step_17, state_1, state_2, state_5, state_6, state_7, state_8, state_10, state_11, state_12, state_13, state_14, state_15, state_16, state_17}
 use Rattle.worked_cases.proofs.Spaces.{recall_needs_space}
@@ -141,38 +141,27 @@ led_17 = works_next led_16 1 (asks state_16 1 refl station_1) loading step_17 re
 
 -- a fact of every station, from that of the two served stations and of the others
 each_station : (P : ℕ → Type 0) → P 0 → P 1 → ((t : ℕ) → t ≢ 0 → t ≢ 1 → P t) → (t : ℕ) → P t
-each_station P first second others = at_and_beside P 0 first (λ t n. beside t n (cases_eq t 1))
-  where
-    beside : (t : ℕ) → t ≢ 0 → (t ≡ 1) ⊎ (t ≢ 1) → P t
-    beside t n (inl e) = subst P (sym e) second
-    beside t n (inr m) = others t n m
+each_station P first second others = at_and_beside P 0 first (λ t n. at_and_beside (λ u. u ≢ 0 → P u) 1 (λ _. second) (λ u m k. others u k m) t n)
 
 queues_empty : (t : ℕ) → state_17.queue t ≡ []
 unfolding tables
-queues_empty = each_station (λ t. state_17.queue t ≡ []) refl refl (λ t n m. simp (eqb_other t 0 n, eqb_other t 1 m))
+queues_empty = each_station (λ t. state_17.queue t ≡ []) refl refl (λ t n m. simp (ne_eqb t 0 n, ne_eqb t 1 m))
 
 lanes_empty : (lane : Lane) (t : ℕ) → state_17.lane lane t ≡ []
 unfolding tables
-lanes_empty Request = each_station (λ t. state_17.lane Request t ≡ []) refl refl (λ t n m. simp (eqb_other t 0 n, eqb_other t 1 m))
-lanes_empty Reply = each_station (λ t. state_17.lane Reply t ≡ []) refl refl (λ t n m. simp (eqb_other t 0 n, eqb_other t 1 m))
-lanes_empty Down = each_station (λ t. state_17.lane Down t ≡ []) refl refl (λ t n m. simp (eqb_other t 0 n, eqb_other t 1 m))
+lanes_empty Request = each_station (λ t. state_17.lane Request t ≡ []) refl refl (λ t n m. simp (ne_eqb t 0 n, ne_eqb t 1 m))
+lanes_empty Reply = each_station (λ t. state_17.lane Reply t ≡ []) refl refl (λ t n m. simp (ne_eqb t 0 n, ne_eqb t 1 m))
+lanes_empty Down = each_station (λ t. state_17.lane Down t ≡ []) refl refl (λ t n m. simp (ne_eqb t 0 n, ne_eqb t 1 m))
 
 led_18 : Leads sizes 0 (WasClosed ∷ Fired Work 1 0 (Loaded 11) ∷ Fired Receive 1 0 Received ∷ calls_15) Closed state_17
 led_18 = granted led_17 may-close (refl, ((queues_empty, lanes_empty), tt)) closes
 
--- whether a cell is a writing copy
-abbrev writes : Cell ℕ → Bool
-writes none = false
-writes (Sh v) = false
-writes (Ex v) = true
-writes Pend = false
+none_is_no_copy : (w : ℕ) → ◌≢◌ {A = Cell ℕ} none (Ex w)
+none_is_no_copy w e = cc
 
 no_writer : (t : ℕ) (w : ℕ) → state_17.cell t 0 ≢ Ex w
 unfolding tables
-no_writer = each_station (λ t. (w : ℕ) → state_17.cell t 0 ≢ Ex w)
-    (λ w e. false≢true (ap writes e))
-    (λ w e. false≢true (ap writes e))
-    (λ t n m w e. false≢true (ap writes (simp (eqb_other t 0 n, eqb_other t 1 m) at e)))
+no_writer = each_station (λ t. (w : ℕ) → state_17.cell t 0 ≢ Ex w) (λ w e. cc) (λ w e. cc) (λ t n m w e. none_is_no_copy w (simp (ne_eqb t 0 n, ne_eqb t 1 m) at e))
 
 led_19 : Leads sizes 0 listing Closed state_17
 unfolding tables

@@ -1,7 +1,14 @@
-use Rattle.std.proofs.Common.{arith}
-use Rattle.calls.proofs.Waits.{lanes_decide}
+use Rattle.std.proofs.Common.{◌≡◌, [], ◌∷◌, rules}
+use Rattle.std.proofs.lemmas.List.{nil_from_length}
+use borrow.Author.Tests.{tests}
+use Rattle.std.proofs.lemmas.Iterator.{YieldsList-from_slice, cases_from_all}
+use Rattle.links.specs.declared.lane.Lane.TheVariants.{Request, Reply, Down}
+use Rattle.calls.proofs.Waits.{some_if_longer, lanes_decide}
 use Rattle.calls.proofs.idle.lanes_idle.Goals as goal
 
 pub returns : goal.returns
 returns g c =
-    lanes_decide (λ lane. (g.L.Links.view c.args.links.now).waiting lane c.args.station) c.waiting.result c.waiting-2.result c.waiting-3.result c.waiting.ensures c.waiting-2.ensures c.waiting-3.ensures (omega arith) (omega arith)
+    let v = g.L.Links.view c.args.links.now in
+    let s = c.args.station in
+    lanes_decide (λ lane. v.waiting lane s) c.all.result
+    (cases_from_all _ _ _ (λ lane. v.waiting lane s ≡ []) (λ lane. v.waiting lane s ≡ [] → ⊥) c.all.ensures.ran (YieldsList-from_slice (Request ∷ Reply ∷ Down ∷ []) c.iter.ensures.rest) (λ x q k. search (rules, tests, nil_from_length)) (λ x q k. search (rules, tests, some_if_longer)))

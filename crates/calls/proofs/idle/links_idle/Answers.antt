@@ -1,15 +1,12 @@
-use Rattle.std.proofs.Common.{◌≡◌, [], refl}
+use Rattle.std.proofs.Common.{◌≡◌, [], refl, rules}
+use borrow.Author.Tests.{tests}
 use Rattle.links.specs.declared.lane.Lane.{Lane}
-use Rattle.calls.proofs.Below.{below_none, below_next}
+use Rattle.calls.proofs.Ranges.{all_below}
 use Rattle.calls.proofs.Waits.{lanes_idle}
 use Rattle.calls.proofs.idle.links_idle.Goals as goal
 
-pub loop-station-init : goal.loop-station-init
-loop-station-init g c = below_none (λ s. (lane : Lane) → (g.L.Links.view c.args.links.now).waiting lane s ≡ [])
-
-pub loop-station-preserved : goal.loop-station-preserved
-loop-station-preserved g c =
-    below_next (λ s. (lane : Lane) → (g.L.Links.view c.args.links.now).waiting lane s ≡ []) c.loop-station.station c.loop-station.invariant (c.if-not-lanes_idle.ensures.0 refl)
-
 pub returns : goal.returns
-returns g c = lanes_idle (g.L.Links.view c.args.links.now) c.loop-station.station (g.L.Links.sound c.args.links.now) c.loop-station-test.false c.loop-station.invariant
+returns g c =
+    let v = g.L.Links.view c.args.links.now in
+    lanes_idle v c.all.result (g.L.Links.sound c.args.links.now)
+    (all_below v.count (λ s. (lane : Lane) → v.waiting lane s ≡ []) (λ s. ((lane : Lane) → v.waiting lane s ≡ []) → ⊥) c.count.result c.all.result refl c.count.ensures c.all.ensures.ran (λ x q k. search (rules, tests)) (λ x q k. search (rules, tests)))

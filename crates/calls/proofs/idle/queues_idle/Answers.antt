@@ -1,16 +1,14 @@
-use Rattle.std.proofs.Common.{◌≡◌, [], arith}
+use Rattle.std.proofs.Common.{◌≡◌, [], refl, rules}
 use Rattle.std.proofs.lemmas.List.{nil_from_length}
+use borrow.Author.Tests.{tests}
 use Rattle.queues.specs.Places.{view_of}
 use Rattle.queues.proofs.Entries.{view_sound}
-use Rattle.calls.proofs.Below.{below_none, below_next}
-use Rattle.calls.proofs.Waits.{rows_idle}
+use Rattle.calls.proofs.Ranges.{all_below}
+use Rattle.calls.proofs.Waits.{some_if_longer, rows_idle}
 use Rattle.calls.proofs.idle.queues_idle.Goals as goal
 
-pub loop-station-init : goal.loop-station-init
-loop-station-init g c = below_none (λ s. (view_of c.args.queues.now).row s ≡ [])
-
-pub loop-station-preserved : goal.loop-station-preserved
-loop-station-preserved g c = below_next (λ s. (view_of c.args.queues.now).row s ≡ []) c.loop-station.station c.loop-station.invariant (nil_from_length _ (omega arith))
-
 pub returns : goal.returns
-returns g c = rows_idle (view_of c.args.queues.now) c.loop-station.station (view_sound c.args.queues.now.entries.now c.args.queues.now.table) (omega arith) c.loop-station.invariant
+returns g c =
+    let v = view_of c.args.queues.now in
+    rows_idle v c.all.result (view_sound c.args.queues.now.entries.now c.args.queues.now.table)
+    (all_below v.rows (λ s. v.row s ≡ []) (λ s. v.row s ≡ [] → ⊥) c.rows.result c.all.result refl c.rows.ensures c.all.ensures.ran (λ x q k. search (rules, tests, nil_from_length)) (λ x q k. search (rules, tests, some_if_longer)))

@@ -1,15 +1,8 @@
 use Rattle.std.proofs.Common.{sym, arith}
 use Rattle.queues.specs.Places.{view_of}
 use Rattle.calls.specs.Memory.{memory}
-use Rattle.calls.proofs.Answering.{fit}
-use Rattle.calls.proofs.Calling.{readout_off, readout_found, readout_home}
+use Rattle.calls.proofs.Calling.{readout_found, readout_home}
 use Rattle.calls.proofs.readout.readout.Goals as goal
-
-pub returns-then-page-sizes : goal.returns-then-page-sizes
-returns-then-page-sizes g c = readout_off g.D.Register.names c.args.sizes (memory c.args.home.now c.args.cells.now (g.L.Links.view c.args.links.now) (view_of c.args.queues.now)) (sym c.if-not-fits.ensures) c.args.page (omega arith)
-
-pub lowest_writer-requires : goal.lowest_writer-requires
-lowest_writer-requires g c = (c.if-page-sizes.false, (fit c.args.sizes (memory c.args.home.now c.args.cells.now (g.L.Links.view c.args.links.now) (view_of c.args.queues.now)) (sym c.if-not-fits.ensures)).cells)
 
 pub returns-in-Some : goal.returns-in-Some
 returns-in-Some g c =
@@ -17,4 +10,4 @@ returns-in-Some g c =
 
 pub returns-in-None : goal.returns-in-None
 returns-in-None g c =
-    readout_home g.D.Register.names c.args.sizes (memory c.args.home.now c.args.cells.now (g.L.Links.view c.args.links.now) (view_of c.args.queues.now)) (sym c.if-not-fits.ensures) c.args.page c.lowest_writer.result c.read_page.result (omega arith) c.lowest_writer.ensures c.in-None.is c.read_page.ensures
+    readout_home g.D.Register.names c.args.sizes (memory c.args.home.now c.args.cells.now (g.L.Links.view c.args.links.now) (view_of c.args.queues.now)) (sym c.if-not-fits.ensures) c.args.page c.lowest_writer.result c.page.result (omega arith) c.lowest_writer.ensures c.in-None.is c.page.ensures

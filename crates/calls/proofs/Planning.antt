@@ -1,6 +1,6 @@
 -- What is found at each question of a firing, as the promise of a plan has it.
 use Rattle.std.proofs.Common.{◌≡◌, ℕ, zero, suc, ◌<◌, ◌≤◌, Bool, true, false, cond, ◌&&◌, eqb, ltb, ◌≢◌, ◌⊎◌, List, [], ◌∷◌, length, Some, None, Ok, Err, Option, sym, refl, ap, ◌∙◌, subst, inl, inr, arith, MatchOption}
-use Rattle.std.specs.Option.{option_map}
+use Rattle.std.specs.Option.{option_map, ok_or}
 use Rattle.std.specs.List.{slice_get}
 use Rattle.std.proofs.lemmas.Bool.{ne_eqb, true≢false, lt-ltb, ltb-true, and_parts, and_from, and_cases, cases_Bool, cases_eq, cases_lt, both_ways}
 use Rattle.messages.specs.declared.message.Kind.{Kind}
@@ -35,6 +35,11 @@ use Rattle.coherence.proofs.Progress.{posted_by_station, posted_by_home}
 use Rattle.calls.specs.Lanes.{space_to_send, space_below, space_for_all}
 use Rattle.calls.proofs.Sending.{same_lane_lem, space_at}
 use Rattle.calls.specs.Plans.{state_of, work_outcome, receive_outcome, collect_outcome, serve_outcome, Planned, Looked}
+
+-- what `ok_or` refuses with is what it was handed
+pub refused : {T : Type 0} (found : Option T) (asked said : Refusal) → Err said ≡ ok_or found asked → said ≡ asked
+refused None asked said e = cc
+refused (Some x) asked said e = let w : ◌≡◌ {A = ℕ} 0 1 = cc in let n : ⊥ = omega arith in absurd n
 
 -- the rules leave no choice, so there is one outcome
 module _ {V : Type 0} (st : State V) (s : ℕ) where

@@ -49,9 +49,10 @@ impl<V: Copy, D: Register, L: Links<Message<V>>> Lent<'_, '_, V, D, L> {
     pub(crate) fn oldest(&self, lane: Lane, station: usize) -> Result<(usize, Kind<V>), Refusal>
         ensures { Looked (slice_get ((L.view self.now.links.now).waiting lane station) 0) self.now.sizes.pages result }
     {
-        let Some(message) = self.links.oldest(lane, station) else {
-            return Err(Refusal::NothingWaits);
-        };
+        let message = self
+            .links
+            .oldest(lane, station)
+            .ok_or(Refusal::NothingWaits)?;
         let page = usize::from(message.page);
         if page >= self.sizes.pages {
             return Err(Refusal::Page);

@@ -53,16 +53,15 @@ impl<V: Copy, D: Register, L: Links<Message<V>>> Lent<'_, '_, V, D, L> {
         ensures inside { Found (λ x. x.0 < self.now.sizes.pages) result }
         ensures space { Found (λ x. space_to_send (L.view self.now.links.now) Request station x.1.sends ≡ true) result }
     {
-        let Some(instruction) = self.queues.oldest(station) else {
-            return Err(Refusal::NothingWaits);
-        };
+        let instruction = self.queues.oldest(station).ok_or(Refusal::NothingWaits)?;
         let page = instruction.page;
         if page >= self.sizes.pages {
             return Err(Refusal::Page);
         }
-        let Some(step) = self.cell(station, page).work(instruction.access) else {
-            return Err(Refusal::NoRule);
-        };
+        let step = self
+            .cell(station, page)
+            .work(instruction.access)
+            .ok_or(Refusal::NoRule)?;
         if !space_to_send(self.links, Lane::Request, station, step.sends) {
             return Err(Refusal::NoSpace);
         }
@@ -77,9 +76,10 @@ impl<V: Copy, D: Register, L: Links<Message<V>>> Lent<'_, '_, V, D, L> {
         ensures space { Found (λ x. space_to_send (L.view self.now.links.now) Reply station x.1.sends ≡ true) result }
     {
         let (page, kind) = self.oldest(Lane::Down, station)?;
-        let Some(step) = self.cell(station, page).receive(kind) else {
-            return Err(Refusal::NoRule);
-        };
+        let step = self
+            .cell(station, page)
+            .receive(kind)
+            .ok_or(Refusal::NoRule)?;
         if !space_to_send(self.links, Lane::Reply, station, step.sends) {
             return Err(Refusal::NoSpace);
         }
@@ -93,9 +93,10 @@ impl<V: Copy, D: Register, L: Links<Message<V>>> Lent<'_, '_, V, D, L> {
         ensures space { Found (λ x. space_for_all (L.view self.now.links.now) (sends_meaning D.names x.1.sends) ≡ true) result }
     {
         let (page, kind) = self.oldest(Lane::Reply, station)?;
-        let Some(step) = self.page(page).collect(station, kind) else {
-            return Err(Refusal::NoRule);
-        };
+        let step = self
+            .page(page)
+            .collect(station, kind)
+            .ok_or(Refusal::NoRule)?;
         Ok((page, step))
     }
 
@@ -106,9 +107,7 @@ impl<V: Copy, D: Register, L: Links<Message<V>>> Lent<'_, '_, V, D, L> {
         ensures space { Found (λ x. space_for_all (L.view self.now.links.now) (sends_meaning D.names x.1.sends) ≡ true) result }
     {
         let (page, kind) = self.oldest(Lane::Request, station)?;
-        let Some(step) = self.page(page).serve(station, kind) else {
-            return Err(Refusal::NoRule);
-        };
+        let step = self.page(page).serve(station, kind).ok_or(Refusal::NoRule)?;
         if !space_for_all(self.links, step.sends) {
             return Err(Refusal::NoSpace);
         }

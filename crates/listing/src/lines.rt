@@ -11,7 +11,8 @@ use std::alloc::{AllocError, Global};
 use std::fmt;
 use values::kind::Value;
 
-// Writes the line of a record: its number, the byte where its field begins and what it means.
+// Writes the line of a record: its number, the byte where its field begins and what it means. As with any `write!`, a part
+// of the line may be left in the text where memory wants; `list` then gives no text.
 pub fn record_line<V: Value + fmt::Display>(
     text: &mut String,
     number: u32,
@@ -25,6 +26,7 @@ pub fn record_line<V: Value + fmt::Display>(
 }
 
 // Writes the line of a fault: the number that its record would have had, its byte, its layer and number, and what they mean.
+// Where memory wants, as above.
 pub fn fault_line(text: &mut String, number: u32, fault: Fault) -> Result<(), AllocError>
     ensures { OnOk result (string_bytes text.new ≡ string_bytes text.old ++ fault_line number fault) }
 {

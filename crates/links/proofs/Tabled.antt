@@ -1,11 +1,11 @@
 -- What the calls of a table do to the lanes of any list of messages. Assumes nothing.
 use Rattle.std.proofs.Common.{◌≡◌, ℕ, ◌*◌, ◌<◌, ◌≤◌, Bool, true, false, cond, leb, List, length, get_or, set, Some, None, sym, refl, ap, ◌∙◌, ⊎_elim, arith}
 use Rattle.std.specs.List.{slice_get}
-use Rattle.std.proofs.lemmas.Bool.{cond-true, cond-false, cases_Bool, le-leb, lt-leb, leb-true}
+use Rattle.std.proofs.lemmas.Bool.{cond-true, cond-false, cases_Bool, le-leb, leb-true}
 use Rattle.std.proofs.lemmas.List.{length-set}
 use Rattle.std.proofs.lemmas.Result.{err_from_is_err_and}
-use Rattle.queues.specs.View.{RowsView, with_row, can_put, can_drop, after_drop}
-use Rattle.queues.specs.Places.{places_of, view_in, Taken, NotTaken}
+use Rattle.queues.specs.View.{RowsView, with_row, can_put, can_drop, after_drop, empty_rows}
+use Rattle.queues.specs.Places.{places_of, places_in, view_in, Taken, NotTaken}
 use Rattle.queues.specs.declared.table.Table.{Table}
 use Rattle.queues.proofs.Entries.{waiting_view, oldest_inside, oldest_view, oldest_none, can_put_view, can_drop_view, put_view, denied_view, drop_view}
 use Rattle.links.specs.declared.lane.Lane.{Lane}
@@ -17,11 +17,12 @@ use Rattle.links.proofs.Lanes.{none_some, row_out, list_is, can_send, send_lanes
 
 -- how many rows are served
 module _ {X : Type 0} (xs : List X) (t : Table) where
-  pub rows_all : t.rows * t.places ≤ length xs → t.rows ≡ (served xs t).rows
-  rows_all h = ap (λ (v : RowsView X). v.rows) (sym (cond-true _ _ _ (le-leb (t.rows * t.places) (length xs) h)))
-
-  pub rows_none : length xs < t.rows * t.places → 0 ≡ (served xs t).rows
-  rows_none h = ap (λ (v : RowsView X). v.rows) (sym (cond-false _ _ _ (lt-leb (t.rows * t.places) (length xs) h)))
+  pub rows_counted : (many : ℕ) → many ≡ length xs → (places_in many t).rows ≡ (served xs t).rows
+  rows_counted many e = ap (λ n. (places_in n t).rows) e ∙ by_test (leb (t.rows * t.places) (length xs))
+    where
+      by_test : (test : Bool) → (cond test (places_of t) (empty_rows 0 t.places)).rows ≡ (cond test (view_in xs t) (empty_rows 0 t.places)).rows
+      by_test true = refl
+      by_test false = refl
 
 -- a table whose places all lie among the messages
 pub served_whole : {X : Type 0} (xs : List X) (t : Table) (many : ℕ) → many ≡ length xs → t.rows * t.places ≤ many → served xs t ≡ view_in xs t
@@ -112,7 +113,7 @@ module _ {X : Type 0} (xs : List X) (t : Table) (lane : Lane) (s n : ℕ) (serve
           drop_sizes false list = (refl, refl)
 
 -- what the calls of byte links stand on
-pub ruleset rows_counted = (rows_all, rows_none, slots_length)
+pub ruleset rows_served = (rows_counted, slots_length)
 
 pub ruleset lane_waits = (lane_waiting)
 

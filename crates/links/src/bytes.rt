@@ -24,16 +24,11 @@ pub struct ByteLinks<'a> {
 impl ByteLinks<'_> {
     // How many rows there are slots for: all of the table's, or none where slots for this kind of value are too few. The
     // kind is no part of the type, so that the same links can be asked for any kind; so each call counts the slots.
-    #[tactic(auto, using(crate::proofs::Tabled::rows_counted))]
+    #[tactic(auto, using(crate::proofs::Tabled::rows_served))]
     fn rows<V: Value>(&self) -> usize
         ensures { result ≡ (served (slots V.bytes V.reads V.width self.now.memory.now) self.now.table).rows }
     {
-        let slots = slot_count::<V>(self.memory.len());
-        if self.table.rows() * self.table.places() <= slots {
-            self.table.rows()
-        } else {
-            0
-        }
+        self.table.rows_over(slot_count::<V>(self.memory.len()))
     }
 }
 

@@ -1,7 +1,7 @@
 -- The places of the waiting entries of a table's rows, and the entries that lie there in any list. Assumes nothing.
-use Rattle.std.specs.Prelude.{◌≡◌, ℕ, ◌+◌, ◌*◌, ◌%◌, ◌<◌, true, false, ◌≢◌, List, map, take, drop, Ok, Err, Result}
+use Rattle.std.specs.Prelude.{◌≡◌, ℕ, ◌+◌, ◌*◌, ◌%◌, ◌<◌, true, false, cond, ◌≢◌, List, map, take, drop, Ok, Err, Result, nat_le}
 use Rattle.std.specs.List.{range_with_len, flat_map, AllByRecursion}
-use Rattle.queues.specs.View.{RowsView, can_put, after_put}
+use Rattle.queues.specs.View.{RowsView, can_put, after_put, empty_rows}
 use Rattle.queues.specs.Positions.{position_in}
 use Rattle.queues.specs.declared.denied.Denied.{Denied}
 use Rattle.queues.specs.declared.position.Position.{Position}
@@ -25,6 +25,10 @@ places_over rows places positions = record { rows = rows; places = places; row =
 -- what a table means
 abbrev pub places_of : Table → RowsView ℕ
 places_of t = places_over t.rows t.places t.positions
+
+-- what a table means over so many entries: it has no row where they are too few for all its rows
+abbrev pub places_in : ℕ → Table → RowsView ℕ
+places_in entries t = cond (nat_le (t.rows * t.places) entries) (places_of t) (empty_rows 0 t.places)
 
 -- the entries at those places; a place past the last has none
 unfoldable pub entries_at : {X : Type 0} → List X → List ℕ → List X

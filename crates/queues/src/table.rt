@@ -1,4 +1,4 @@
-ghost use Rattle.std.specs.Prelude.{◌≡◌, ◌+◌, ◌*◌, ◌<◌, ◌≤◌, length};
+ghost use Rattle.std.specs.Prelude.{◌≡◌, ◌+◌, ◌*◌, ◌<◌, ◌≤◌, length, IfOk};
 ghost use Rattle.std.specs.List.{slice_get};
 ghost use Rattle.queues.specs.View.{most_rows, most_places, can_drop, after_drop, granted_if, empty_rows, made_rows};
 ghost use Rattle.queues.specs.Positions.{OldestWithin, WaitingWithin, position_in};
@@ -26,7 +26,7 @@ pub struct Table {
 }
 
 impl Table {
-    ghost use Rattle.queues.specs.Places.{places_of, Taking};
+    ghost use Rattle.queues.specs.Places.{places_of, places_in, Taking};
 
     // A table for so many entries, in which nothing waits; it has no row where the sizes do not fit.
     pub fn new(entries: usize, rows: usize, places: usize) -> Table
@@ -108,6 +108,65 @@ impl Table {
         let places = self.places;
         self.positions[row].shrink(places);
         Ok(())
+    }
+
+    // How many rows there are over so many entries: none where they are too few for all rows. Whoever stores the entries may
+    // lend fewer than the table was made for, and asks by this call and the four below, which then deny or find nothing.
+    pub fn rows_over(&self, entries: usize) -> usize
+        ensures { result ≡ (places_in entries self.now).rows }
+    {
+        if self.rows * self.places <= entries {
+            self.rows
+        } else {
+            0
+        }
+    }
+
+    // How many entries wait in a row over so many entries.
+    #[tactic(auto, using(crate::proofs::Over::over_missing))]
+    pub fn waiting_over(&self, entries: usize, row: usize) -> usize
+        ensures { result ≡ length ((places_in entries self.now).row row) }
+    {
+        if row < self.rows_over(entries) {
+            self.waiting(row)
+        } else {
+            0
+        }
+    }
+
+    // The place of the oldest entry of a row over so many entries, if one waits.
+    #[tactic(auto, using(crate::proofs::Over::over_missing))]
+    pub fn oldest_over(&self, entries: usize, row: usize) -> Option<usize>
+        ensures { result ≡ slice_get ((places_in entries self.now).row row) 0 }
+    {
+        if self.waiting_over(entries, row) > 0 {
+            self.oldest(row)
+        } else {
+            None
+        }
+    }
+
+    // Takes the place after the newest entry of a row, one of so many entries; denied also where these are too few.
+    pub fn take_next_over(&mut self, entries: usize, row: usize) -> Result<usize, Denied>
+        ensures taking { Taking row (places_in entries self.old) result (places_in entries self.new) }
+        ensures inside { IfOk result (λ place. place < entries) }
+    {
+        if row >= self.rows_over(entries) {
+            return Err(Denied);
+        }
+        self.take_next(row)
+    }
+
+    // Gives up the place of the oldest entry of a row over so many entries; denied also where these are too few.
+    #[tactic(auto, using(crate::proofs::Over::over_missing))]
+    pub fn give_up_oldest_over(&mut self, entries: usize, row: usize) -> Result<(), Denied>
+        ensures answer { result ≡ granted_if (can_drop (places_in entries self.old) row) }
+        ensures after { places_in entries self.new ≡ after_drop (places_in entries self.old) row }
+    {
+        if self.waiting_over(entries, row) == 0 {
+            return Err(Denied);
+        }
+        self.give_up_oldest(row)
     }
 
     // The position of a row; nothing waits in a row that is not there.

@@ -1,8 +1,8 @@
-ghost use Rattle.std.specs.Prelude.{◌≡◌, List, ℕ, ◌++◌, OnOk, IfOk, string_bytes};
-ghost use Rattle.listing.specs.Words.{meaning, Prints};
+ghost use Rattle.std.specs.Prelude.{◌≡◌, List, ℕ, ◌++◌, OnOk, OnErr, IfOk, string_bytes};
+ghost use Rattle.listing.specs.Words.{meaning};
 ghost use Rattle.listing.specs.Lines.{record_line, fault_line, Listing};
 
-use crate::words::Meaning;
+use crate::words::{Listed, Meaning};
 use script::fault::Fault;
 use script::field::Reader;
 use script::record::Record;
@@ -11,9 +11,9 @@ use std::alloc::{AllocError, Global};
 use std::fmt;
 use values::kind::Value;
 
-// Writes the line of a record: its number, the byte where its field begins and what it means. As with any `write!`, a part
-// of the line may be left in the text where memory wants; `list` then gives no text.
-pub fn record_line<V: Value + fmt::Display>(
+// Writes the line of a record: its number, the byte where its field begins and what it means. Where memory wants, nothing is
+// known of the text.
+fn write_record<V: Value + fmt::Display>(
     text: &mut String,
     number: u32,
     at: usize,
@@ -26,8 +26,7 @@ pub fn record_line<V: Value + fmt::Display>(
 }
 
 // Writes the line of a fault: the number that its record would have had, its byte, its layer and number, and what they mean.
-// Where memory wants, as above.
-pub fn fault_line(text: &mut String, number: u32, fault: Fault) -> Result<(), AllocError>
+fn write_fault(text: &mut String, number: u32, fault: Fault) -> Result<(), AllocError>
     ensures { OnOk result (string_bytes text.new ≡ string_bytes text.old ++ fault_line number fault) }
 {
     let at = fault.at;
@@ -37,16 +36,41 @@ pub fn fault_line(text: &mut String, number: u32, fault: Fault) -> Result<(), Al
     write!(text, "{number} byte {at}: fault {layer} {code}: {kind}\n")
 }
 
+// Adds the line of a record to the text. The line is made apart, so that where memory wants the text is as it was.
+pub fn record_line<V: Value + fmt::Display>(
+    text: &mut String,
+    number: u32,
+    at: usize,
+    record: Record<V>,
+) -> Result<(), AllocError>
+    ensures written { (said : List ℕ) → meaning V.output «record» ≡ Some said → OnOk result (string_bytes text.new ≡ string_bytes text.old ++ record_line number at said) }
+    ensures kept { OnErr result (string_bytes text.new ≡ string_bytes text.old) }
+{
+    let mut line = String::new(*text.allocator());
+    write_record(&mut line, number, at, record)?;
+    text.push_str(line.as_str())
+}
+
+// Adds the line of a fault to the text; where memory wants, the text is as it was.
+pub fn fault_line(text: &mut String, number: u32, fault: Fault) -> Result<(), AllocError>
+    ensures written { OnOk result (string_bytes text.new ≡ string_bytes text.old ++ fault_line number fault) }
+    ensures kept { OnErr result (string_bytes text.new ≡ string_bytes text.old) }
+{
+    let mut line = String::new(*text.allocator());
+    write_fault(&mut line, number, fault)?;
+    text.push_str(line.as_str())
+}
+
 // The listing of a script of values of the kind `V`. Want of memory is the one error, and no contract can say
 // when it comes.
-pub fn list<V: Value + fmt::Display>(heap: Global, script: &[u8]) -> Result<String, AllocError>
-    ensures { Prints V.output → IfOk result (λ text. Listing V.width V.reads V.output script.now (string_bytes text)) }
+pub fn list<V: Listed>(heap: Global, script: &[u8]) -> Result<String, AllocError>
+    ensures { IfOk result (λ text. Listing V.width V.reads V.output script.now (string_bytes text)) }
 {
     let mut text = String::new(heap);
     let mut reader = match Reader::new(script) {
         Ok(reader) => reader,
         Err(fault) => {
-            fault_line(&mut text, 0, fault)?;
+            write_fault(&mut text, 0, fault)?;
             return Ok(text);
         }
     };
@@ -57,7 +81,7 @@ pub fn list<V: Value + fmt::Display>(heap: Global, script: &[u8]) -> Result<Stri
         let found = match reader.next_record::<V>() {
             Ok(found) => found,
             Err(fault) => {
-                fault_line(&mut text, number, fault)?;
+                write_fault(&mut text, number, fault)?;
                 return Ok(text);
             }
         };
@@ -67,7 +91,7 @@ pub fn list<V: Value + fmt::Display>(heap: Global, script: &[u8]) -> Result<Stri
         let Some(record) = decode::<V>(next.record) else {
             unreachable!()
         };
-        record_line(&mut text, number, next.at, record)?;
+        write_record(&mut text, number, next.at, record)?;
         number += 1;
     }
 }

@@ -1,10 +1,25 @@
-ghost use Rattle.std.specs.Prelude.{◌≡◌, Some};
-ghost use Rattle.listing.specs.Words.{firing_words, meaning};
+ghost use Rattle.std.specs.Prelude.{◌≡◌, Some, refl};
+ghost use Rattle.listing.specs.Words.{firing_words, meaning, Prints};
 
 use protocol::firing::FiringKind;
 use script::record::Record;
 use std::fmt;
+use values::answer::Answer;
+use values::count::Count;
 use values::kind::Value;
+
+// A kind of value that can be listed: it says of each value what it prints.
+pub trait Listed: Value + fmt::Display {
+    ghost prints: { Prints Self.output };
+}
+
+impl Listed for Count {
+    ghost prints = { λ _. refl };
+}
+
+impl Listed for Answer {
+    ghost prints = { λ _. refl };
+}
 
 // A firing, as a listing says it.
 #[derive(Clone, Copy)]

@@ -1,7 +1,11 @@
 use listing::kinds::ScriptKind;
+use listing::lines::{fault_line, record_line};
+use script::fault::FaultKind;
+use script::record::Record;
 use std::alloc::{AllocError, Global};
 use std::process::Abort;
 use std::test::Fail;
+use values::count::Count;
 
 fn lists(
     rt: &impl Abort,
@@ -309,4 +313,21 @@ fn the_longest_script(rt: HostRuntime) -> Result<(), Fail> {
         script.as_slice(),
         "0 byte 0: fault 1 20: the script has more than 65536 bytes\n",
     )
+}
+
+// A line is added to what a text holds already.
+#[test]
+fn lines_are_added_to_a_text(rt: HostRuntime) -> Result<(), Fail> {
+    let mut text = String::from_str(rt.alloc(), "before\n")?;
+    let record = Record::Set {
+        page: 258,
+        value: Count { number: 300 },
+    };
+    record_line(&mut text, 7, 12, record)?;
+    fault_line(&mut text, 8, FaultKind::UnknownTag.at(21))?;
+    assert_eq!(rt;
+        text.as_str(),
+        "before\n7 byte 12: set page 258 to 300\n8 byte 21: fault 2 23: no record has this tag\n"
+    );
+    Ok(())
 }

@@ -1,6 +1,5 @@
 use Rattle.std.proofs.Common.{◌≡◌, ℕ, ◌+◌, ◌-◌, ◌≤◌, List, ◌++◌, length, string_bytes}
 use Rattle.script.specs.Fields.{longest}
-use Rattle.listing.specs.Words.{Prints}
 use Rattle.listing.specs.Lines.{Lines}
 use Rattle.listing.proofs.lines.list.Given as goal
 
@@ -11,7 +10,7 @@ invariant-loop-found g l = record {
   within : l.reader.at ≤ length l.script;
   short : length l.script ≤ longest;
   counted : l.number ≤ l.reader.at + 1;
-  so_far : Prints g.V.Display.output → (rest : List ℕ) → Lines g.V.Value.width g.V.Value.reads g.V.Display.output l.script l.number l.reader.at rest → Lines g.V.Value.width g.V.Value.reads g.V.Display.output l.script 1 0 (string_bytes l.text ++ rest);
+  so_far : (rest : List ℕ) → Lines g.V.Value.width g.V.Value.reads g.V.Display.output l.script l.number l.reader.at rest → Lines g.V.Value.width g.V.Value.reads g.V.Display.output l.script 1 0 (string_bytes l.text ++ rest);
 }
 
 abbrev pub decreases-loop-found : goal.decreases-loop-found

@@ -20,13 +20,14 @@ pub(crate) fn fill_home<V: Copy, D: Register>(home: &mut [HomePage<V, D>], value
     home.fill_with(|| page);
 }
 
-// No station has a copy of any page; the value beside it counts for nothing.
-pub(crate) fn fill_cells<V: Copy>(cells: &mut [CellRecord<V>], value: V)
+// No station has a copy of any page; each record keeps the value that it had, which counts for nothing.
+pub(crate) fn fill_cells<V: Copy>(cells: &mut [CellRecord<V>])
     ensures { (n pages s p : ℕ) → cells_of n pages cells.new s p ≡ none }
 {
-    let record = CellRecord {
-        state: CellState::None,
-        value,
-    };
-    cells.fill_with(|| record);
+    for cell in cells.iter_mut() {
+        *cell = CellRecord {
+            state: CellState::None,
+            value: cell.value,
+        };
+    }
 }

@@ -36,6 +36,6 @@ pub(crate) fn prepare<V: Copy, D: Register, L: Links<Message<V>>>(
         return Err(Refusal::Memory);
     }
     fill_home(home, value);
-    fill_cells(cells, value);
+    fill_cells(cells);
     Ok(round)
 }

@@ -17,6 +17,15 @@ pub enum FiringKind {
     Serve = 4,
 }
 
+// The same numbers, for the match that reads them.
+const WORK: u8 = FiringKind::Work as u8;
+
+const RECEIVE: u8 = FiringKind::Receive as u8;
+
+const COLLECT: u8 = FiringKind::Collect as u8;
+
+const SERVE: u8 = FiringKind::Serve as u8;
+
 // A number that no kind of firing has.
 #[derive(Clone, Copy, PartialEq, Eq, Debug)]
 pub struct UnknownFiring(pub u8);
@@ -36,10 +45,10 @@ impl TryFrom<u8> for FiringKind {
 
     fn try_from(number: u8) -> Result<FiringKind, UnknownFiring> {
         match number {
-            1 => Ok(FiringKind::Work),
-            2 => Ok(FiringKind::Receive),
-            3 => Ok(FiringKind::Collect),
-            4 => Ok(FiringKind::Serve),
+            WORK => Ok(FiringKind::Work),
+            RECEIVE => Ok(FiringKind::Receive),
+            COLLECT => Ok(FiringKind::Collect),
+            SERVE => Ok(FiringKind::Serve),
             _ => Err(UnknownFiring(number)),
         }
     }
